@@ -1,0 +1,3 @@
+pub mod Digits
+pub mod Numbers
+pub mod Lines

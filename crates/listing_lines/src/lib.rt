@@ -1,0 +1,3 @@
+mod digits;
+pub mod faults;
+pub mod lines;

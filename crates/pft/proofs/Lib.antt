@@ -1,0 +1,17 @@
+mod Lists
+mod Masks
+mod Count
+mod Props
+mod Line
+mod Given
+mod Out
+mod Stages
+mod Ask
+mod Join
+mod Post
+mod Enter
+mod Clear
+mod Done
+mod Ahead
+mod Good
+mod AtLock

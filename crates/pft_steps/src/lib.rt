@@ -1,0 +1,4 @@
+pub mod party;
+pub mod steps;
+pub mod words;
+pub mod wrapping;

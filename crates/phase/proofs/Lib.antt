@@ -1,0 +1,4 @@
+pub mod Moves
+pub mod Counting
+pub mod Lines
+pub mod Stepping

@@ -1,0 +1,3 @@
+pub mod faults;
+pub mod kinds;
+pub mod lock;

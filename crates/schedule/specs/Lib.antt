@@ -1,0 +1,4 @@
+pub mod Numbers
+pub mod Word
+pub mod Schedule
+pub mod View

@@ -1,0 +1,4 @@
+pub mod faults;
+pub mod reader;
+pub mod view;
+pub mod word;
