@@ -1,0 +1,4 @@
+pub mod Looks
+pub mod Keeps
+pub mod Values
+pub mod Ways

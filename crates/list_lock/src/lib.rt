@@ -1,0 +1,4 @@
+pub mod calls;
+pub mod lock;
+pub mod one_value;
+mod parts;
