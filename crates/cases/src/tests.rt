@@ -96,9 +96,9 @@ fn the_program_prints_these_listings(rt: LibcRuntime) -> Result<(), Fail> {
     lists(heap, &[0x0f80, 0x2f80, 0x2f00], text)
 }
 
-// The schedules of the folder `examples`.
+// The first schedule of the folder `examples`, and the second below it.
 #[test]
-fn the_examples_are_listed_so(rt: LibcRuntime) -> Result<(), Fail> {
+fn two_writers_are_listed_so(rt: LibcRuntime) -> Result<(), Fail> {
     let heap = rt.alloc();
     let two_writers = [
         0x1000,
@@ -124,7 +124,12 @@ fn the_examples_are_listed_so(rt: LibcRuntime) -> Result<(), Fail> {
     ];
     let text =
         b"0001 1000 q\n0002 1080 q\n0003 2000 k\n0004 0100 c\n0005 2000 p\n0006 2000 w\n0007 2100 n\n0008 3100 a\n0009 0100 h\n0010 2000 n\n0011 3080 x12\n0012 3000 o\n0013 2000 g\n0014 2080 k\n0015 2080 p\n0016 2100 n\n0017 3100 a\n0018 2080 n\n0019 3080 o\n0020 2080 g\n00000200 00000200 00000002 00000002\n";
-    lists(heap, &two_writers, text)?;
+    lists(heap, &two_writers, text)
+}
+
+#[test]
+fn a_reader_around_a_writer_is_listed_so(rt: LibcRuntime) -> Result<(), Fail> {
+    let heap = rt.alloc();
     let around = [
         0x0000,
         0x1080,

@@ -1,5 +1,5 @@
-use listing_text::ENOUGH;
 use listing_text::MOST;
+use listing_text::enough;
 use listing_text::print_text;
 use std::io;
 use std::io::Read;
@@ -9,7 +9,7 @@ use std::io::Write;
 fn main(rt: LibcRuntime) -> io::Result<()> {
     let heap = rt.alloc();
     let mut input = Vec::new(heap);
-    let mut source = rt.stdin().take(ENOUGH);
+    let mut source = rt.stdin().take(enough());
     source.read_to_end(&mut input)?;
     let mut space = vec![in heap; 0u8; MOST]?;
     match print_text(&input, &mut space) {

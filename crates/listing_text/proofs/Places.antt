@@ -1,5 +1,7 @@
 -- A listing read word by word, and how long its lines are.
 use mathlib.Core.Path.{_≡_, sym, ap, _∙_}
+use mathlib.Core.Bool.{cond}
+use lib.Dec.{ltb}
 use mathlib.Core.List.{List, [], _∷_, _++_, append-assoc}
 use Prim.Native.Nat.{ℕ, zero, suc, _+_, _-_, _*_, _<_, _≤_}
 use native.Mathlib.Omega.{arith}
@@ -7,7 +9,7 @@ use native.Mathlib.Numerals.{add-one}
 use denote.Ref.{now}
 use lib.ListN.{length, getD, take, drop, length-take, length-append, length-drop}
 use lib.Seq.{drop-cons}
-use Rattle.std.proofs.shelf.Lists.{take-at, drop-at, drop-all, drop-drop}
+use Rattle.std.proofs.shelf.Lists.{take-all, take-at, drop-at, drop-all, drop-drop}
 use mathlib.Core.Logic.{inl, inr}
 use Rattle.std.proofs.shelf.Maps.{nth-getD}
 use Rattle.std.proofs.shelf.Tests.{cases-lt, lt-ltb, cond-true}
@@ -19,7 +21,8 @@ use Rattle.phase.specs.Book.{Answer}
 use Rattle.phase.specs.declared.kinds.LockCall.{LockCall}
 use Rattle.phase.specs.declared.kinds.LockCall.the-variants.{RequestRead}
 use Rattle.pft.specs.Model.{State, answer, after}
-use Rattle.schedule.specs.Schedule.{at-place, Calls, listed}
+use Rattle.schedule.specs.declared.faults.ScheduleFault.the-variants.{TooLong}
+use Rattle.schedule.specs.Schedule.{words-of, calls-of, at-place, Calls, listed}
 use Rattle.schedule.specs.View.{words, calls}
 use Rattle.schedule.specs.declared.view.Schedule.{Schedule}
 use Rattle.schedule.proofs.Words.{words-length, calls-length, calls-within}
@@ -27,7 +30,7 @@ use Rattle.listing_lines.specs.Lines.{line, refusal-line}
 use Rattle.listing_lines.specs.declared.faults.ListingFault.{ListingFault}
 use Rattle.listing_lines.specs.declared.faults.ListingFault.the-variants.{Space, OfSchedule}
 use Rattle.schedule.specs.declared.faults.ScheduleFault.{ScheduleFault}
-use Rattle.listing_text.specs.Listing.{call-at, line-at, last, lines-from, text-of, print-from, Written}
+use Rattle.listing_text.specs.Listing.{call-at, line-at, last, lines-from, longest, text-from, text-of, print-from, Written}
 
 -- what a list has at a place that it has
 pub at-place-is : {X : Type 0} (xs : List X) (k : ℕ) (d : X) → 0 < k → k ≤ length xs → at-place xs k ≡ Some (getD xs (k - 1) d)
@@ -163,4 +166,18 @@ room-then input n fault f e g = elim (cases-lt n 57380) [
       let s : text-of input n ≡ Err Space = cond-true _ _ _ (lt-ltb n 57380 h) in
       let z : _≡_ {A = ℕ} 0 1 = cc in absurd (omega arith)
   | inr h ↦ h
+]
+
+-- of an input that is too long, one byte more than the longest schedule shows it
+pub too-long : (input : List ℕ) → 8192 < length input → calls-of input ≡ Err TooLong
+too-long input h = cond-true _ _ _ (lt-ltb 8192 (length input) h)
+
+pub suffices : (input : List ℕ) (room : ℕ) → text-of (take 8193 input) room ≡ text-of input room
+suffices input room = elim (cases-lt 8193 (length input)) [
+  | inl h ↦
+      let cut = too-long (take 8193 input) (rw length-take (omega arith)) in
+      let whole = too-long input (omega arith) in
+      ap (λ (x : Result (List ℕ) ListingFault). cond (ltb room longest) (Err Space) x)
+      (ap (text-from (words-of (take 8193 input))) cut ∙ sym (ap (text-from (words-of input)) whole))
+  | inr h ↦ ap (λ (bs : List ℕ). text-of bs room) (take-all 8193 input h)
 ]

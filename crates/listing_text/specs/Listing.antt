@@ -4,7 +4,7 @@ use mathlib.Core.Bool.{cond}
 use mathlib.Core.List.{List, [], _∷_, _++_}
 use Prim.Native.Nat.{ℕ, _+_, _-_}
 use lib.Dec.{ltb}
-use lib.ListN.{length, getD, drop}
+use lib.ListN.{length, getD, take, drop}
 use Rattle.std.specs.declared.result.Result.{Result}
 use Rattle.std.specs.declared.result.Result.the-variants.{Ok, Err}
 use Rattle.phase.specs.declared.kinds.LockCall.{LockCall}
@@ -73,3 +73,7 @@ print-from (Err (OfSchedule fault)) = Ok (refusal-line fault)
 -- what printing does with some space
 abbrev pub Printed : List ℕ → List ℕ → Result ℕ ListingFault → List ℕ → Type 0
 Printed input before r space = Written (print-from (text-of input (length before))) before r space
+
+-- the first n bytes of an input give the text of the whole
+abbrev pub Suffices : ℕ → Type 0
+Suffices n = (input : List ℕ) (room : ℕ) → text-of (take n input) room ≡ text-of input room

@@ -7,7 +7,7 @@ ghost use Rattle.std.specs.Vec.{made};
 ghost use Rattle.listing_lines.specs.Lines.{line, text, last-line, refusal-line};
 ghost use Rattle.pft.specs.Model.{state, opened, answer, after};
 ghost use Rattle.schedule.specs.View.{words, calls};
-ghost use Rattle.listing_text.specs.Listing.{call-at, line-at, lines-from, longest, Listed, Printed};
+ghost use Rattle.listing_text.specs.Listing.{call-at, line-at, lines-from, longest, Suffices, Listed, Printed};
 use listing_lines::faults::ListingFault;
 use listing_lines::faults::ListingFaultFromScheduleFault;
 use listing_lines::lines::Line;
@@ -25,8 +25,14 @@ use schedule::view::Schedule;
 /// The bytes of the longest listing: 4,096 lines of refused words, 14 bytes each, and the last line's 36.
 pub const MOST: usize = 57380;
 
-/// As many bytes of an input as show what it is: one more than the longest schedule has.
-pub const ENOUGH: u64 = 8193;
+/// As many bytes of an input as the program has to read: one more than the longest schedule has. What follows them does not
+/// change the text.
+pub fn enough() -> u64
+    ensures answer { λ r. ⌜ r ≡ 8193 ⌝ }
+    ensures suffices { λ r. ⌜ Suffices r ⌝ }
+{
+    8192 + 1
+}
 
 /// Lists a schedule, run on a phase-fair ticket lock for 32 parties from count 0, into the caller's space, and answers
 /// the length of the text. Refused, with the space as it was, if the space is below `MOST` bytes or the schedule is no

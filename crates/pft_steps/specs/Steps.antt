@@ -121,12 +121,11 @@ posted p w = record {
 abbrev pub high-bits : ℕ
 high-bits = 4294967040
 
--- A writer goes out in two steps: its leave makes the low byte of rin 0, its last advance makes wout grow by 1.
--- What rin becomes by either
+-- rin as a writer goes out: its leave makes the low byte 0, its last advance changes nothing
 abbrev pub rin-out : Bool → ℕ → ℕ
 rin-out last rin = cond last rin (bitAnd rin high-bits)
 
--- and wout
+-- wout as a writer goes out: its leave changes nothing, its last advance makes it grow by 1
 abbrev pub wout-out : Bool → ℕ → ℕ
 wout-out last wout = cond last (sum 32 wout 1) wout
 
