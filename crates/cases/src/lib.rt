@@ -1,5 +1,7 @@
 //! Worked examples. Each function below has a theorem for its contract, over the definitions that the contracts of the
 //! calls cite; none does anything when it is called.
+#![tactic(auto)]
+
 ghost use Rattle.cases.specs.Examples.{ReadersAroundAWriter, ALoneWriterWraps, AReadRequestWraps, ThePhaseBitLetsAReaderIn, AnAwayPartyCannotAdvance};
 ghost use Rattle.cases.specs.OnARig.{ReadersAroundAWriterOnARig, ALoneWriterWrapsOnARig, AReadRequestWrapsOnARig, ThePhaseBitLetsAReaderInOnARig};
 ghost use Rattle.cases.specs.Payouts.{ALeaveWaitsForTheSettling, FourCoinsArePaidOut, AFullCellTakesNothing, AWaitingReaderIsToldOfAWriter};

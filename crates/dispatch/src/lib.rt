@@ -1,2 +1,4 @@
+#![tactic(auto)]
+
 pub mod dispatch;
 pub mod reply;

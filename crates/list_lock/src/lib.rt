@@ -1,3 +1,5 @@
+#![tactic(auto)]
+
 pub mod calls;
 pub mod lock;
 pub mod one_value;

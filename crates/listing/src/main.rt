@@ -1,3 +1,5 @@
+#![tactic(auto)]
+
 use listing_text::{MOST, enough, print_text};
 use std::io;
 use std::io::{Read, Write};

@@ -1,3 +1,5 @@
+#![tactic(auto)]
+
 mod digits;
 pub mod faults;
 pub mod lines;

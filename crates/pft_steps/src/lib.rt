@@ -1,3 +1,5 @@
+#![tactic(auto)]
+
 pub mod party;
 pub mod steps;
 pub mod words;
