@@ -3,8 +3,8 @@ use Rattle.phase.specs.declared.kinds.Standing.TheVariants as S
 use Rattle.list_lock.proofs.Keeps as keeps
 use Rattle.list_lock.proofs.parts.all_away.Goals as goal
 
-pub invariant-of-result : goal.invariant-of-result
-invariant-of-result c =
+pub invariant_of-result : goal.invariant_of-result
+invariant_of-result c =
     let k = keeps.new_kept c.args.count (replicate 32 0) c.requires in
     (search rules, (k.0, (k.1, ((keeps.blank_new S.Away c.args.count 32, keeps.blank_new 0 0 32), tt))))
 

@@ -5,12 +5,12 @@ use Rattle.list_lock.proofs.Keeps as keeps
 use Rattle.list_lock.proofs.Ways as ways
 use Rattle.list_lock.proofs.calls.ListLockLock.leave.Goals as goal
 
-pub invariant-of-self : goal.invariant-of-self
-invariant-of-self c =
+pub invariant_of-self : goal.invariant_of-self
+invariant_of-self c =
     let l = c.args.self.now in
     let p = c.args.party in
     let h = c.if-p-self.false in
-    let s = ways.leave_gone l p h c.free.new.standings c.without-len.result.1 c.without-len.result.0 c.free.ensures c.without-len.ensures.front c.in-ok-writes.writes c.if-writes.true (c.in-ok-writes.ensures (book_of l) p) in
+    let s = ways.leave_gone l p h c.free.new.standings c.without-len.result.1 c.without-len.result.0 c.free.ensures c.without-len.ensures.front c.in_ok-writes.writes c.if-writes.true (c.in_ok-writes.ensures (book_of l) p) in
     let k = keeps.kept l s in
     (search rules, (k.0, (k.1, ((keeps.blank_gone l.count l.standings c.free.new.standings p h c.free.ensures l.blank.0, c.without-len.ensures.behind), tt))))
 
@@ -19,15 +19,15 @@ returns-then-writes c =
     let l = c.args.self.now in
     let p = c.args.party in
     let h = c.if-p-self.false in
-    let s = ways.leave_gone l p h c.free.new.standings c.without-len.result.1 c.without-len.result.0 c.free.ensures c.without-len.ensures.front c.in-ok-writes.writes c.if-writes.true (c.in-ok-writes.ensures (book_of l) p) in
+    let s = ways.leave_gone l p h c.free.new.standings c.without-len.result.1 c.without-len.result.0 c.free.ensures c.without-len.ensures.front c.in_ok-writes.writes c.if-writes.true (c.in_ok-writes.ensures (book_of l) p) in
     record { steps = s; own = record { refused = λ e. grind arith; shows = s.moved } }
 
-pub invariant-of-self-else-writes : goal.invariant-of-self-else-writes
-invariant-of-self-else-writes c =
+pub invariant_of-self-else-writes : goal.invariant_of-self-else-writes
+invariant_of-self-else-writes c =
     let l = c.args.self.now in
     let p = c.args.party in
     let h = c.if-p-self.false in
-    let s = ways.leave_put l p h c.in-ok-writes.writes c.if-writes.false (c.in-ok-writes.ensures (book_of l) p) in
+    let s = ways.leave_put l p h c.in_ok-writes.writes c.if-writes.false (c.in_ok-writes.ensures (book_of l) p) in
     let k = keeps.kept l s in
     (search rules, (k.0, (k.1, ((keeps.blank_set S.Away l.count l.standings p S.Away h l.blank.0, l.blank.1), tt))))
 
@@ -36,13 +36,13 @@ returns-else-writes c =
     let l = c.args.self.now in
     let p = c.args.party in
     let h = c.if-p-self.false in
-    let s = ways.leave_put l p h c.in-ok-writes.writes c.if-writes.false (c.in-ok-writes.ensures (book_of l) p) in
+    let s = ways.leave_put l p h c.in_ok-writes.writes c.if-writes.false (c.in_ok-writes.ensures (book_of l) p) in
     record { steps = s; own = record { refused = λ e. grind arith; shows = s.moved } }
 
-pub returns-in-err-writes : goal.returns-in-err-writes
-returns-in-err-writes c =
+pub returns-in_err-writes : goal.returns-in_err-writes
+returns-in_err-writes c =
     let l = c.args.self.now in
     let p = c.args.party in
     let h = c.if-p-self.false in
-    let s = ways.leave_unfit l p h c.from-residual.result c.from-residual.ensures.0 (c.in-err-writes.ensures (book_of l) p) in
+    let s = ways.leave_unfit l p h c.from_residual.result c.from_residual.ensures.0 (c.in_err-writes.ensures (book_of l) p) in
     record { steps = s; own = record { refused = λ _. refl; shows = s.moved } }

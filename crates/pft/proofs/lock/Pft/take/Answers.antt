@@ -13,31 +13,31 @@ returns-then-not-known c =
       words = past_state l c.args.call _ c.party-party.ensures h;
     }
 
-pub returns-in-err-change : goal.returns-in-err-change
-returns-in-err-change c =
+pub returns-in_err-change : goal.returns-in_err-change
+returns-in_err-change c =
     let l = c.args.self.now in
     let h = ltb-true _ _ (sym c.has-known.ensures ∙ c.if-not-known.false) in
-    let k = comes l c.args.call _ c.party-party.ensures h _ c.in-err-change.ensures in
-    let p = err_from_is_err_and c.from-residual.result c.from-residual.ensures.1 in
+    let k = comes l c.args.call _ c.party-party.ensures h _ c.in_err-change.ensures in
+    let p = err_from_is_err_and c.from_residual.result c.from_residual.ensures.1 in
     rw (p.1, p.2) (record { steps = k.steps; words = k.words })
 
-pub invariant-of-self : goal.invariant-of-self
-invariant-of-self c =
+pub invariant_of-self : goal.invariant_of-self
+invariant_of-self c =
     let l = c.args.self.now in
     let h = ltb-true _ _ (sym c.has-known.ensures ∙ c.if-not-known.false) in
-    let k = comes l c.args.call _ c.party-party.ensures h _ c.in-ok-change.ensures in
+    let k = comes l c.args.call _ c.party-party.ensures h _ c.in_ok-change.ensures in
     (k.kept.0, (k.kept.1.0, (k.kept.1.1, tt)))
 
-pub invariant-of-self-2 : goal.invariant-of-self-2
-invariant-of-self-2 c =
+pub invariant_of-self-2 : goal.invariant_of-self-2
+invariant_of-self-2 c =
     let l = c.args.self.now in
     let h = ltb-true _ _ (sym c.has-known.ensures ∙ c.if-not-known.false) in
-    let k = comes l c.args.call _ c.party-party.ensures h _ c.in-ok-change.ensures in
+    let k = comes l c.args.call _ c.party-party.ensures h _ c.in_ok-change.ensures in
     ((l.within.0, simp length-set l.within.1), (∣ k.sound ∣₁, tt))
 
 pub returns : goal.returns
 returns c =
     let l = c.args.self.now in
     let h = ltb-true _ _ (sym c.has-known.ensures ∙ c.if-not-known.false) in
-    let k = comes l c.args.call _ c.party-party.ensures h _ c.in-ok-change.ensures in
+    let k = comes l c.args.call _ c.party-party.ensures h _ c.in_ok-change.ensures in
     record { steps = k.steps; words = k.words }

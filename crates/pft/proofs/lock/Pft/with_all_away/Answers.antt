@@ -4,14 +4,14 @@ use Rattle.pft_steps.specs.Steps.{nobody}
 use Rattle.pft.proofs.Ahead.{open_sound, open_seen}
 use Rattle.pft.proofs.lock.Pft.with_all_away.Goals as goal
 
-pub invariant-of-result : goal.invariant-of-result
-invariant-of-result c =
+pub invariant_of-result : goal.invariant_of-result
+invariant_of-result c =
     let e = c.readers-at-readers.ensures in
-    let k = c.readers-at-readers.type-inv in
+    let k = c.readers-at-readers.type_inv in
     ((k, k, c.ranges.start.fits, c.ranges.start.fits), (omega (arith, e), ((omega (arith, e), λ z. omega (arith, e, z)), tt)))
 
-pub invariant-of-result-2 : goal.invariant-of-result-2
-invariant-of-result-2 c =
+pub invariant_of-result-2 : goal.invariant_of-result-2
+invariant_of-result-2 c =
     let P : ℕ → Type 0 = λ r. Sound r r c.args.start c.args.start (take c.args.parties (replicate 32 nobody)) in
     ((c.requires, refl), (∣ rw c.readers-at-readers.ensures (open_sound c.args.start c.args.parties c.requires c.ranges.start.fits) ∣₁, tt))
 

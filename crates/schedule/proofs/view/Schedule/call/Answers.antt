@@ -6,6 +6,6 @@ use Rattle.schedule.proofs.view.Schedule.call.Goals as goal
 pub returns : goal.returns
 returns c =
     let bs : List ℕ = c.args.self.now.bytes.now in
-    c.call-at.ensures
+    c.call_at.ensures
     ∙ (calls_place bs c.args.place c.args.self.now.good
     ∙ ap (λ (r : Calls). at_place (listed r) c.args.place) (sym (calls_within bs c.args.self.now.short c.args.self.now.even)))
