@@ -4,8 +4,8 @@ use Rattle.phase.specs.Book.{some, bars}
 use Rattle.list_lock.proofs.Looks.{some_found, some_more}
 use Rattle.list_lock.proofs.parts.any_bars.Goals as goal
 
-pub returns-then-holds-off : goal.returns-then-holds-off
-returns-then-holds-off c = sym (some_found bars c.args.standings.now c.loop-s.s-index (omega arith) (grind arith))
+pub returns-then-holds_off : goal.returns-then-holds_off
+returns-then-holds_off c = sym (some_found bars c.args.standings.now c.loop-s.s-index (omega arith) (grind arith))
 
 pub loop-s-preserved : goal.loop-s-preserved
 loop-s-preserved c = some_more bars c.args.standings.now c.loop-s.s-index c.loop-s.invariant (grind arith)

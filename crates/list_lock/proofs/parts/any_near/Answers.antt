@@ -4,8 +4,8 @@ use Rattle.phase.specs.Book.{some, near}
 use Rattle.list_lock.proofs.Looks.{some_found, some_more}
 use Rattle.list_lock.proofs.parts.any_near.Goals as goal
 
-pub returns-then-is-near : goal.returns-then-is-near
-returns-then-is-near c = sym (some_found near c.args.standings.now c.loop-s.s-index (omega arith) (grind arith))
+pub returns-then-is_near : goal.returns-then-is_near
+returns-then-is_near c = sym (some_found near c.args.standings.now c.loop-s.s-index (omega arith) (grind arith))
 
 pub loop-s-preserved : goal.loop-s-preserved
 loop-s-preserved c = some_more near c.args.standings.now c.loop-s.s-index c.loop-s.invariant (grind arith)

@@ -12,7 +12,7 @@ invariant_of-self c =
     let h = c.if-p-self.false in
     let s = ways.leave_gone l p h c.free.new.standings c.without-len.result.1 c.without-len.result.0 c.free.ensures c.without-len.ensures.front c.in_ok-writes.writes c.if-writes.true (c.in_ok-writes.ensures (book_of l) p) in
     let k = keeps.kept l s in
-    (search rules, (k.0, (k.1, ((keeps.blank_gone l.count l.standings c.free.new.standings p h c.free.ensures l.blank.0, c.without-len.ensures.behind), tt))))
+    record { within = search rules; lined = k.0; stays = k.1; blank = (keeps.blank_gone l.count l.standings c.free.new.standings p h c.free.ensures l.blank.0, c.without-len.ensures.behind) }
 
 pub returns-then-writes : goal.returns-then-writes
 returns-then-writes c =
@@ -29,7 +29,7 @@ invariant_of-self-else-writes c =
     let h = c.if-p-self.false in
     let s = ways.leave_put l p h c.in_ok-writes.writes c.if-writes.false (c.in_ok-writes.ensures (book_of l) p) in
     let k = keeps.kept l s in
-    (search rules, (k.0, (k.1, ((keeps.blank_set S.Away l.count l.standings p S.Away h l.blank.0, l.blank.1), tt))))
+    record { within = search rules; lined = k.0; stays = k.1; blank = (keeps.blank_set S.Away l.count l.standings p S.Away h l.blank.0, l.blank.1) }
 
 pub returns-else-writes : goal.returns-else-writes
 returns-else-writes c =

@@ -10,16 +10,16 @@ invariant_of-self c =
     let l = c.args.self.now in
     let p = c.args.party in
     let h = c.if-p-self.false in
-    let s = ways.read_put l p h c.in_ok-next.next c.in_ok-next.letter (c.in_ok-next.ensures (book_of l) p (sym c.any-bars-barred.ensures)) in
+    let s = ways.read_put l p h c.in_ok-next.next c.in_ok-next.letter (c.in_ok-next.ensures (book_of l) p (sym c.any_bars-barred.ensures)) in
     let k = keeps.kept l s in
-    (search rules, (k.0, (k.1, ((keeps.blank_set S.Away l.count l.standings p c.in_ok-next.next h l.blank.0, l.blank.1), tt))))
+    record { within = search rules; lined = k.0; stays = k.1; blank = (keeps.blank_set S.Away l.count l.standings p c.in_ok-next.next h l.blank.0, l.blank.1) }
 
 pub returns : goal.returns
 returns c =
     let l = c.args.self.now in
     let p = c.args.party in
     let h = c.if-p-self.false in
-    let s = ways.read_put l p h c.in_ok-next.next c.in_ok-next.letter (c.in_ok-next.ensures (book_of l) p (sym c.any-bars-barred.ensures)) in
+    let s = ways.read_put l p h c.in_ok-next.next c.in_ok-next.letter (c.in_ok-next.ensures (book_of l) p (sym c.any_bars-barred.ensures)) in
     record { steps = s; own = record { refused = λ e. grind arith; shows = s.moved } }
 
 pub returns-in_err-next : goal.returns-in_err-next
@@ -27,5 +27,5 @@ returns-in_err-next c =
     let l = c.args.self.now in
     let p = c.args.party in
     let h = c.if-p-self.false in
-    let s = ways.read_unfit l p h c.from_residual.result c.from_residual.ensures.0 (c.in_err-next.ensures (book_of l) p (sym c.any-bars-barred.ensures)) in
+    let s = ways.read_unfit l p h c.from_residual.result c.from_residual.ensures.0 (c.in_err-next.ensures (book_of l) p (sym c.any_bars-barred.ensures)) in
     record { steps = s; own = record { refused = λ _. refl; shows = s.moved } }

@@ -24,7 +24,7 @@ invariant_of-self c =
     let room = ways.room l p h c.in_ok-next.letter (ap (λ (o : Out). o.answer) e) in
     let s = ways.write_put l p h c.in_ok-next.next c.in_ok-next.letter c.join-self.result c.join-self.new.line room c.join-self.ensures.one c.join-self.ensures.written e in
     let k = keeps.kept l s in
-    (search rules, (k.0, (k.1, ((keeps.blank_set S.Away l.count l.standings p c.in_ok-next.next h l.blank.0, keeps.blank_joined l.len c.join-self.result l.line c.join-self.new.line p c.join-self.ensures.one c.join-self.ensures.written l.blank.1), tt))))
+    record { within = search rules; lined = k.0; stays = k.1; blank = (keeps.blank_set S.Away l.count l.standings p c.in_ok-next.next h l.blank.0, keeps.blank_joined l.len c.join-self.result l.line c.join-self.new.line p c.join-self.ensures.one c.join-self.ensures.written l.blank.1) }
 
 pub returns : goal.returns
 returns c =

@@ -26,14 +26,14 @@ invariant_of-self c =
     let l = c.args.self.now in
     let h = ltb-true _ _ (sym c.has-known.ensures ∙ c.if-not-known.false) in
     let k = comes l c.args.call _ c.party-party.ensures h _ c.in_ok-change.ensures in
-    (k.kept.0, (k.kept.1.0, (k.kept.1.1, tt)))
+    record { fits = k.kept.0; whole = k.kept.1.0; flags = k.kept.1.1 }
 
 pub invariant_of-self-2 : goal.invariant_of-self-2
 invariant_of-self-2 c =
     let l = c.args.self.now in
     let h = ltb-true _ _ (sym c.has-known.ensures ∙ c.if-not-known.false) in
     let k = comes l c.args.call _ c.party-party.ensures h _ c.in_ok-change.ensures in
-    ((l.within.0, simp length-set l.within.1), (∣ k.sound ∣₁, tt))
+    record { within = (l.within.0, simp length-set l.within.1); sound = ∣ k.sound ∣₁ }
 
 pub returns : goal.returns
 returns c =

@@ -6,18 +6,25 @@ use Rattle.pft.proofs.lock.Pft.with_all_away.Goals as goal
 
 pub invariant_of-result : goal.invariant_of-result
 invariant_of-result c =
-    let e = c.readers-at-readers.ensures in
-    let k = c.readers-at-readers.type_inv in
-    ((k, k, c.ranges.start.fits, c.ranges.start.fits), (omega (arith, e), ((omega (arith, e), λ z. omega (arith, e, z)), tt)))
+    let e = c.readers_at-readers.ensures in
+    let k = c.readers_at-readers.type_inv in
+    record {
+      fits = (k, k, c.ranges.start.fits, c.ranges.start.fits);
+      whole = omega (arith, e);
+      flags = (omega (arith, e), λ z. omega (arith, e, z));
+    }
 
 pub invariant_of-result-2 : goal.invariant_of-result-2
 invariant_of-result-2 c =
     let P : ℕ → Type 0 = λ r. Sound r r c.args.start c.args.start (take c.args.parties (replicate 32 nobody)) in
-    ((c.requires, refl), (∣ rw c.readers-at-readers.ensures (open_sound c.args.start c.args.parties c.requires c.ranges.start.fits) ∣₁, tt))
+    record {
+      within = (c.requires, refl);
+      sound = ∣ rw c.readers_at-readers.ensures (open_sound c.args.start c.args.parties c.requires c.ranges.start.fits) ∣₁;
+    }
 
 pub returns : goal.returns
 returns c =
-    let e = c.readers-at-readers.ensures in
+    let e = c.readers_at-readers.ensures in
     record {
       words = λ k. record { count = c.args.parties; words = record { rin = e k; rout = e k; win = c.args.start; wout = c.args.start }; parties = replicate 32 nobody };
       shows = ap (λ (r : ℕ). seen r c.args.start (take c.args.parties (replicate 32 nobody))) e ∙ open_seen c.args.start c.args.parties c.requires;
