@@ -172,10 +172,10 @@ fn the_longest_schedule_fits(rt: HostRuntime) -> Result<(), Fail> {
     // One line of 12 bytes, 4,095 of 14, and the last.
     let length = print_text(&long, &mut space)?;
     assert_eq!(rt; length, 12 + 4095 * 14 + 36);
-    assert_eq!(rt; &space[57328..57342], b"4096 0000 x12\n");
+    assert_eq!(rt; &space[57328..57342], b"4096 0000 x12\n".as_slice());
     assert_eq!(rt;
         &space[57342..57378],
-        b"00000100 00000000 00000000 00000000\n"
+        b"00000100 00000000 00000000 00000000\n".as_slice()
     );
     Ok(())
 }
