@@ -1,5 +1,5 @@
 -- The worked examples on rigs hold, by computation.
-use Rattle.std.proofs.Common.{◌≡◌, refl}
+use Rattle.std.proofs.Common.{refl}
 use Rattle.rig_parts.specs.Told.{told_by_writer}
 use Rattle.cases.specs.OnARig.{ReadersAroundAWriterOnARig, ALoneWriterWrapsOnARig, AReadRequestWrapsOnARig, ThePhaseBitLetsAReaderInOnARig}
 use Rattle.cases.specs.Payouts.{ALeaveWaitsForTheSettling, FourCoinsArePaidOut, AFullCellTakesNothing, AWaitingReaderIsToldOfAWriter}

@@ -6,7 +6,7 @@ use Rattle.phase.specs.declared.kinds.LockCall.TheVariants.{RequestRead, Request
 use Rattle.till.specs.Holding.{held_in}
 use Rattle.till.specs.declared.faults.TillFault.TheVariants.{PastLimit, TooFew, NoneLeft}
 use Rattle.rig_parts.specs.Numbers.{rig_number}
-use Rattle.rig_parts.specs.View.{View, opened, does, recorded, locks, look, fill, begin, drop, settle}
+use Rattle.rig_parts.specs.View.{View, opened, does, recorded, locks, fill, begin, drop, settle}
 use Rattle.rig_parts.specs.declared.faults.RigFault.TheVariants.{Paying, OfTill}
 use Rattle.cases.specs.RigRuns.{shows_after}
 

@@ -1,5 +1,5 @@
 -- The calls and the questions, at a lock.
-use Rattle.std.proofs.Common.{◌≡◌, ℕ, ◌+◌, ◌-◌, ◌%◌, ◌^◌, ◌<◌, ◌≤◌, true, List, get_or, take, set, Ok, Err, Result, sym, refl, ap, ◌∙◌, subst, arith, length-take, get_or-take}
+use Rattle.std.proofs.Common.{◌≡◌, ℕ, ◌+◌, ◌-◌, ◌%◌, ◌^◌, ◌<◌, ◌≤◌, true, List, get_or, take, set, Ok, Err, Result, sym, refl, ap, ◌∙◌, arith, length-take, get_or-take}
 use mathlib.Core.Path.{subst⁻¹}
 use lib.Bits.{bit_and}
 use lib.ListN.{length-map}

@@ -14,7 +14,7 @@ use Rattle.pft.proofs.Lists.{each_set, counted_same}
 use Rattle.pft.proofs.Line.{holder_is, holder_set}
 use Rattle.pft_steps.proofs.Wrap.{wrap_more, wrap_cancel}
 use Rattle.phase.specs.declared.kinds.Letter.TheVariants as L
-use Rattle.pft.proofs.Given.{Given, holds_no, few_writers, joins_at, mine, itself, resum}
+use Rattle.pft.proofs.Given.{Given, holds_no, few_writers, joins_at, itself, resum}
 use Rattle.pft_steps.specs.Steps.{moved}
 
 abbrev pub joined : ℕ → Party

@@ -3,7 +3,7 @@
 use Rattle.std.proofs.Common.{◌≡◌, ℕ, ◌<◌, Bool, true, false, cond, ltb, ◌≢◌, List, [], ◌∷◌, ◌++◌, length, set, Ok, Err, refl, ◌∙◌, get_or-set_other, get_or-set_same}
 use lib.ListN.{get_or-map, length-map}
 use Rattle.std.proofs.lemmas.Bool.{cond_both, ltb-true}
-use Rattle.phase.specs.Book.{Book, Out, Answer, step, standing, count, freeing, within, some, bars, near, leads, without, free_all, freed, read_as, write_as, advance_as, leave_as}
+use Rattle.phase.specs.Book.{Book, Out, Answer, step, standing, count, within, some, bars, near, leads, without, free_all, freed, read_as, write_as, advance_as, leave_as}
 use Rattle.phase.specs.Line.{is_writer}
 use Rattle.phase.specs.declared.kinds.Standing.{Standing}
 use Rattle.phase.specs.declared.kinds.Standing.TheVariants as S
