@@ -1,6 +1,6 @@
 ghost use Rattle.std.specs.Prelude.{◌≡◌, ◌≤◌, true, nat_lt};
 ghost use Rattle.phase.specs.Book.{Steps, new};
-ghost use Rattle.pft.specs.Model.{state, book as bookOf, opened, after, after_opening};
+ghost use Rattle.pft.specs.Model.{state, book as pft_book, opened, after, after_opening};
 
 use crate::lock::Pft;
 use pft_steps::steps::{NOBODY, before, change_by, readers_at, standing_of};
@@ -14,7 +14,7 @@ impl Lock for Pft {
 
     ghost two = { true };
 
-    ghost book = { bookOf };
+    ghost book = { pft_book };
 
     ghost moved = { λ s c r t. state t ≡ after c (state s) };
 
@@ -83,7 +83,7 @@ impl Pft {
     fn with_all_away(parties: u32, start: u32) -> Pft
         requires { parties ≤ 32 }
         ensures words { state result ≡ opened parties start }
-        ensures shows { bookOf result ≡ new parties }
+        ensures shows { pft_book result ≡ new parties }
     {
         let readers = readers_at(start);
         Pft {
@@ -100,7 +100,7 @@ impl Pft {
 
     // Makes a call: looks up its party, and writes what the step makes of it and of the words.
     fn take(&mut self, call: LockCall) -> Result<Letter, LockFault>
-        ensures steps { Steps true call (bookOf self.old) result (bookOf self.new) }
+        ensures steps { Steps true call (pft_book self.old) result (pft_book self.new) }
         ensures words { state self.new ≡ after call (state self.old) }
     {
         let party = call.party();
