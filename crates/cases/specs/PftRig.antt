@@ -1,4 +1,4 @@
--- A rig over the phase-fair ticket lock: all that it holds, and what each call of a schedule replies and makes of it.
+-- A rig over the phase-fair ticket lock: all that it holds, and what each call replies and makes of it.
 use Rattle.std.specs.Prelude.{ℕ, true, cond, List, replicate, Result}
 use Rattle.pft.specs.Model.{State, state, book_of, opened, after_opening}
 use Rattle.pft.specs.Model as pft
@@ -41,7 +41,7 @@ lock_after (drop p) h = h.lock
 lock_after (settle p) h = h.lock
 lock_after (opening n start) h = after_opening n start h.lock
 
--- what a schedule's call replies
+-- what a call replies
 abbrev pub replies : schedule.Call → Held → Result Reply RigFault
 replies c h = reply_to c (does true (made c) (shown h)).answer
 

@@ -13,7 +13,7 @@ abbrev pub mark_of : Result Reply RigFault → ℕ
 mark_of (Ok reply) = code_of_reply reply
 mark_of (Err fault) = 120
 
--- what a schedule's calls answer on a rig over the phase-fair ticket lock
+-- what the calls answer on a rig over the phase-fair ticket lock
 abbrev pub replied : Held → List Call → List ℕ
 replied h [] = []
 replied h (c ∷ cs) = mark_of (replies c h) ∷ replied (after c h) cs

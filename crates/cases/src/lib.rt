@@ -7,6 +7,7 @@ ghost use Rattle.cases.specs.OnARig.{ReadersAroundAWriterOnARig, ALoneWriterWrap
 ghost use Rattle.cases.specs.Payouts.{ALeaveWaitsForTheSettling, FourCoinsArePaidOut, AFullCellTakesNothing, AWaitingReaderIsToldOfAWriter};
 
 pub mod both_locks;
+pub mod on_pft;
 
 /// Two readers and a writer: the one that asked before the posting goes first, the other waits for the writer.
 pub fn readers_around_a_writer()
@@ -33,7 +34,7 @@ pub fn an_away_party_cannot_advance()
     ensures { AnAwayPartyCannotAdvance }
 {}
 
-/// The two readers and the writer on a rig, from a schedule's calls.
+/// The two readers and the writer on a rig.
 pub fn readers_around_a_writer_on_a_rig()
     ensures { ReadersAroundAWriterOnARig }
 {}

@@ -1,4 +1,4 @@
--- A schedule's call made on a rig: which call of the rig it is, and what it replies.
+-- A call, given as a value, made on a rig: which call of the rig it is, and what it replies.
 use Rattle.std.specs.Prelude.{◌≡◌, ℕ, Bool, Ok, Err, Result}
 use Rattle.phase.specs.Book.{Book, Answer, Opened}
 use Rattle.phase.specs.declared.kinds.LockCall.{LockCall}
@@ -13,7 +13,7 @@ use Rattle.schedule.specs.declared.call.Call.TheVariants.{RequestRead, RequestWr
 use Rattle.dispatch.specs.declared.reply.Reply.{Reply}
 use Rattle.dispatch.specs.declared.reply.Reply.TheVariants.{Stepped, Looked, Filled, Begun, Dropped, Settled}
 
--- the rig's call that a schedule's call makes
+-- the rig's call that it makes
 abbrev pub made : Call → rig.Call
 made (RequestRead p) = locks (K.RequestRead p)
 made (RequestWrite p) = locks (K.RequestWrite p)

@@ -9,7 +9,7 @@ use rig::rig::Rig;
 use rig_parts::faults::RigFault;
 use schedule::call::Call;
 
-/// Makes a schedule's call on a rig.
+/// Makes a call, given as a value, on a rig.
 pub fn dispatch<L: Lock>(rig: &mut Rig<L>, call: Call) -> Result<Reply, RigFault>
     ensures { Dispatches L.Lock.moved L.Lock.began L.Lock.book L.Lock.two call rig.old result rig.new }
 {

@@ -3,7 +3,7 @@ ghost use Rattle.dispatch.specs.Replies.{code_of_reply};
 
 use phase::kinds::Letter;
 
-/// What a call of a schedule answers where it is accepted.
+/// What a call of a rig answers where it is accepted.
 #[derive(Clone, Copy, PartialEq, Eq, Debug)]
 pub enum Reply {
     /// The letter of a call that went to the lock.

@@ -1,4 +1,4 @@
-ghost use Rattle.std.specs.Prelude.{◌≡◌, ltb, if◌then◌else◌, Ok, Err, nat_lt};
+ghost use Rattle.std.specs.Prelude.{◌≡◌, if◌then◌else◌, Ok, Err, nat_lt};
 ghost use Rattle.phase.specs.Book.{standing as standing_in};
 ghost use Rattle.phase.specs.Standings.{is_inside, is_writing};
 ghost use Rattle.phase.specs.declared.faults.LockFault.TheVariants.{Unfit};
@@ -169,7 +169,7 @@ impl<L: Lock> Rig<L> {
     }
 
     fn must_be_there(&self, party: u8) -> Result<(), RigFault>
-        ensures { result ≡ (if ltb party self.now.parties then Ok tt else Err NoParty) }
+        ensures { result ≡ (if nat_lt party self.now.parties then Ok tt else Err NoParty) }
     {
         if !self.has(party) {
             return Err(RigFault::NoParty);
@@ -178,7 +178,7 @@ impl<L: Lock> Rig<L> {
     }
 
     fn must_be_inside(&self, party: u8) -> Result<(), RigFault>
-        ensures { result ≡ (if ltb party self.now.parties then (if is_inside (standing_in (L.Lock.book self.now.lock) party) then Ok tt else Err (OfLock Unfit)) else Err NoParty) }
+        ensures { result ≡ (if nat_lt party self.now.parties then (if is_inside (standing_in (L.Lock.book self.now.lock) party) then Ok tt else Err (OfLock Unfit)) else Err NoParty) }
     {
         self.must_be_there(party)?;
         if !self.lock.standing(party).is_inside() {
@@ -188,7 +188,7 @@ impl<L: Lock> Rig<L> {
     }
 
     fn must_be_writing(&self, party: u8) -> Result<(), RigFault>
-        ensures { result ≡ (if ltb party self.now.parties then (if is_writing (standing_in (L.Lock.book self.now.lock) party) then Ok tt else Err (OfLock Unfit)) else Err NoParty) }
+        ensures { result ≡ (if nat_lt party self.now.parties then (if is_writing (standing_in (L.Lock.book self.now.lock) party) then Ok tt else Err (OfLock Unfit)) else Err NoParty) }
     {
         self.must_be_there(party)?;
         if !self.lock.standing(party).is_writing() {
