@@ -15,7 +15,7 @@ use rig_parts::faults::RigFault;
 /// Asks to write and advances three times, which brings a party inside where no other stands in its way. Answers as the
 /// last advance does.
 pub fn enter<L: Lock>(rig: &mut Rig<L>, party: u8) -> Result<Letter, RigFault>
-    ensures { Entered L.Lock.two party (view L.Lock.book rig.old) result (view L.Lock.book rig.new) }
+    ensures { Entered L.Lock.TWO_STEP party (view L.Lock.book rig.old) result (view L.Lock.book rig.new) }
 {
     let _ = rig.request_write(party);
     let _ = rig.advance(party);

@@ -3,8 +3,10 @@ mod rigs;
 use list_lock::lock::ListLock;
 use listing_text::{MOST, listing_text, print_text};
 use pft::lock::Pft;
+use phase::faults::Fault;
 use phase::kinds::LockCall;
 use phase::lock::{Lock, make};
+use schedule::faults::PlacedFault;
 use std::alloc::Global;
 use std::process::Abort;
 use std::test::Fail;
@@ -28,7 +30,7 @@ fn a_lock_opens_for_1_to_32_parties(rt: HostRuntime) {
 // The letter of a call, x where it is refused.
 fn letter<L: Lock>(lock: &mut L, call: LockCall) -> char {
     match make(lock, call) {
-        Ok(letter) => letter.as_char(),
+        Ok(letter) => char::from(letter),
         Err(_) => 'x',
     }
 }

@@ -11,7 +11,7 @@ use schedule::call::Call;
 
 /// Makes a call, given as a value, on a rig.
 pub fn dispatch<L: Lock>(rig: &mut Rig<L>, call: Call) -> Result<Reply, RigFault>
-    ensures { Dispatches L.Lock.moved L.Lock.began L.Lock.book L.Lock.two call rig.old result rig.new }
+    ensures { Dispatches L.Lock.moved L.Lock.began L.Lock.book L.Lock.TWO_STEP call rig.old result rig.new }
 {
     match call {
         Call::RequestRead(party) => stepped(rig.request_read(party)),

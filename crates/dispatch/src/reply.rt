@@ -18,13 +18,13 @@ pub enum Reply {
     Settled { dropped: u32, left: u32 },
 }
 
-impl Reply {
-    /// The letter as it is written.
-    pub fn as_char(self) -> char
-        ensures { result ≡ code_of_reply self }
-    {
-        match self {
-            Reply::Stepped(letter) => letter.as_char(),
+/// The letter as it is written.
+impl From<Reply> for char {
+    ghost from_gives = { λ reply c. c ≡ code_of_reply reply };
+
+    fn from(reply: Reply) -> char {
+        match reply {
+            Reply::Stepped(letter) => char::from(letter),
             Reply::Looked(_) => 'r',
             Reply::Filled(_) => 'f',
             Reply::Begun => 'b',

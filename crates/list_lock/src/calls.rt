@@ -13,7 +13,7 @@ use phase::lock::{Lock, right_count};
 impl Lock for ListLock {
     const TWO_STEP: bool = false;
 
-    ghost two = { false };
+    ghost TWO_STEP = { false };
 
     ghost book = { book_of };
 
@@ -22,10 +22,6 @@ impl Lock for ListLock {
     ghost began = { λ s n _ r t. Began s n r t };
 
     ghost bare = { Bare };
-
-    fn leaves_in_two() -> bool {
-        Self::TWO_STEP
-    }
 
     fn unopened() -> Self {
         all_away(0)

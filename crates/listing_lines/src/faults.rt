@@ -1,9 +1,10 @@
-ghost use Rattle.std.specs.Prelude.{◌≡◌};
-ghost use Rattle.listing_lines.specs.Numbers.{number_of, layer_of, place_of};
+ghost use Rattle.std.specs.Prelude.{◌≡◌, ◌<◌, ℕ};
+ghost use Rattle.std.proofs.Common.{rules};
+ghost use Rattle.listing_lines.specs.Numbers.{number_of as listing_number, layer_of as listing_layer, place_of as listing_place};
 ghost use Rattle.listing_lines.specs.declared.faults.ListingFault.TheVariants.{OfSchedule};
 
-use phase::faults::Layer;
-use schedule::faults::ScheduleFault;
+use phase::faults::{Fault, Layer};
+use schedule::faults::{PlacedFault, ScheduleFault};
 
 /// Why a listing is refused.
 #[derive(Clone, Copy, PartialEq, Eq, Debug)]
@@ -22,29 +23,32 @@ impl From<ScheduleFault> for ListingFault {
     }
 }
 
-impl ListingFault {
-    pub fn number(self) -> u8
-        ensures { result ≡ number_of self }
-    {
+impl Fault for ListingFault {
+    ghost number_of = { listing_number };
+
+    ghost layer_of = { listing_layer };
+
+    fn number(self) -> u8 {
         match self {
             ListingFault::Space => 52,
             ListingFault::OfSchedule(fault) => fault.number(),
         }
     }
 
-    pub fn layer(self) -> Layer
-        ensures { result ≡ layer_of self }
-    {
+    fn layer(self) -> Layer {
         match self {
             ListingFault::Space => Layer::Listing,
             ListingFault::OfSchedule(fault) => fault.layer(),
         }
     }
 
-    /// The place of the word at fault, 0 where the fault is of no one word.
-    pub fn place(self) -> u16
-        ensures { result ≡ place_of self }
-    {
+    ghost two_digits = { Prim.search rules };
+}
+
+impl PlacedFault for ListingFault {
+    ghost place_of = { listing_place };
+
+    fn place(self) -> u16 {
         match self {
             ListingFault::Space => 0,
             ListingFault::OfSchedule(fault) => fault.place(),

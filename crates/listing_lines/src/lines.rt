@@ -3,9 +3,9 @@ ghost use Rattle.phase.specs.Letters.{code_of};
 ghost use Rattle.listing_lines.specs.Lines.{line, refusal, text, last_line, refusal_line};
 
 use crate::digits::{dec2, dec4, hex4, hex8};
-use phase::faults::LockFault;
+use phase::faults::{Fault, LockFault};
 use phase::kinds::Letter;
-use schedule::faults::ScheduleFault;
+use schedule::faults::{PlacedFault, ScheduleFault};
 
 /// The line of a word.
 #[derive(Clone, Copy)]
@@ -18,7 +18,7 @@ pub enum Line {
 fn letter_byte(letter: Letter) -> u8
     ensures { result ≡ code_of letter }
 {
-    letter.as_char() as u8
+    char::from(letter) as u8
 }
 
 /// A refusal: `x` and the number of its fault.

@@ -12,7 +12,7 @@ use phase::lock::{Lock, right_count};
 impl Lock for Pft {
     const TWO_STEP: bool = true;
 
-    ghost two = { true };
+    ghost TWO_STEP = { true };
 
     ghost book = { pft_book };
 
@@ -21,10 +21,6 @@ impl Lock for Pft {
     ghost began = { λ s n start r t. state t ≡ after_opening n start (state s) };
 
     ghost bare = { λ l. state l ≡ opened 0 0 };
-
-    fn leaves_in_two() -> bool {
-        Self::TWO_STEP
-    }
 
     fn unopened() -> Self {
         Pft::with_all_away(0, 0)

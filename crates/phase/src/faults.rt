@@ -1,4 +1,5 @@
-ghost use Rattle.std.specs.Prelude.{◌≡◌};
+ghost use Rattle.std.specs.Prelude.{◌≡◌, ◌<◌, ℕ};
+ghost use Rattle.std.proofs.Common.{rules};
 ghost use Rattle.phase.specs.Numbers.{lock_number, lock_layer, open_number, open_layer};
 
 /// The part of the system that gave a refusal. A fault that is passed upward keeps its layer.
@@ -13,6 +14,24 @@ pub enum Layer {
     Listing,
 }
 
+/// A refusal: it has a number, and names the layer that gave it.
+pub trait Fault: Copy {
+    ghost use Rattle.phase.specs.declared.faults.Layer.{Layer};
+
+    ghost number_of: { Self → ℕ };
+
+    ghost layer_of: { Self → Layer };
+
+    fn number(self) -> u8
+        ensures { result ≡ number_of self };
+
+    fn layer(self) -> Layer
+        ensures { result ≡ layer_of self };
+
+    // Two digits write the number.
+    ghost two_digits: { (fault : Self) → number_of fault < 100 };
+}
+
 /// Why a lock refuses a call.
 #[derive(Clone, Copy, PartialEq, Eq, Debug)]
 pub enum LockFault {
@@ -20,22 +39,24 @@ pub enum LockFault {
     Unfit,
 }
 
-impl LockFault {
-    pub fn number(self) -> u8
-        ensures { result ≡ lock_number self }
-    {
+impl Fault for LockFault {
+    ghost number_of = { lock_number };
+
+    ghost layer_of = { lock_layer };
+
+    fn number(self) -> u8 {
         match self {
             LockFault::Unfit => 12,
         }
     }
 
-    pub fn layer(self) -> Layer
-        ensures { result ≡ lock_layer self }
-    {
+    fn layer(self) -> Layer {
         match self {
             LockFault::Unfit => Layer::Lock,
         }
     }
+
+    ghost two_digits = { Prim.search rules };
 }
 
 /// Why an opening is refused.
@@ -45,20 +66,22 @@ pub enum OpenFault {
     Count,
 }
 
-impl OpenFault {
-    pub fn number(self) -> u8
-        ensures { result ≡ open_number self }
-    {
+impl Fault for OpenFault {
+    ghost number_of = { open_number };
+
+    ghost layer_of = { open_layer };
+
+    fn number(self) -> u8 {
         match self {
             OpenFault::Count => 1,
         }
     }
 
-    pub fn layer(self) -> Layer
-        ensures { result ≡ open_layer self }
-    {
+    fn layer(self) -> Layer {
         match self {
             OpenFault::Count => Layer::Opening,
         }
     }
+
+    ghost two_digits = { Prim.search rules };
 }

@@ -5,8 +5,9 @@ ghost use Rattle.phase.specs.Standings.{is_inside, is_writing, is_waiting, is_en
 
 /// Where a party stands in the phase book. `Away` is first, so that it is also what a list of
 /// standings is read as past its end.
-#[derive(Clone, Copy, PartialEq, Eq, Debug)]
+#[derive(Clone, Copy, PartialEq, Eq, Debug, Default)]
 pub enum Standing {
+    #[default]
     Away,
     /// A reader that has to wait for the writer that is posted or inside.
     HeldOff,
@@ -79,12 +80,12 @@ pub enum Letter {
     Out,
 }
 
-impl Letter {
-    /// The letter as it is written.
-    pub fn as_char(self) -> char
-        ensures { result ≡ code_of self }
-    {
-        match self {
+/// The letter as it is written.
+impl From<Letter> for char {
+    ghost from_gives = { λ letter c. c ≡ code_of letter };
+
+    fn from(letter: Letter) -> char {
+        match letter {
             Letter::Cleared => 'c',
             Letter::Held => 'h',
             Letter::Queued => 'q',
@@ -97,7 +98,9 @@ impl Letter {
             Letter::Out => 'o',
         }
     }
+}
 
+impl Letter {
     /// The party has entered by this call.
     pub fn is_entry(self) -> bool
         ensures { result ≡ is_entry self }
@@ -121,10 +124,10 @@ impl LockCall {
         ensures { result ≡ caller self }
     {
         match self {
-            LockCall::RequestRead(party) => party,
-            LockCall::RequestWrite(party) => party,
-            LockCall::Advance(party) => party,
-            LockCall::Leave(party) => party,
+            LockCall::RequestRead(party)
+            | LockCall::RequestWrite(party)
+            | LockCall::Advance(party)
+            | LockCall::Leave(party) => party,
         }
     }
 }

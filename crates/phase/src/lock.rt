@@ -17,8 +17,7 @@ pub trait Lock: Sized {
     /// Whether a writer leaves in two steps, going out first, or in one.
     const TWO_STEP: bool;
 
-    // The constant, for clauses, which cannot name it.
-    ghost two: { Bool };
+    ghost TWO_STEP: { Bool };
 
     // The phase book that the lock keeps.
     ghost book: { Self → Book };
@@ -32,16 +31,12 @@ pub trait Lock: Sized {
     // The lock's own value before it is ever opened.
     ghost bare: { Self → Type 0 };
 
-    /// The constant, with a contract: of the constant itself a proof about any lock knows nothing.
-    fn leaves_in_two() -> bool
-        ensures { result ≡ two };
-
     /// A lock that was never opened: it has no parties, and refuses every call.
     fn unopened() -> Self
         ensures shows { book result ≡ new 0 }
         ensures own { bare result };
 
-    /// Opens the lock anew, with all parties away. Refused, with nothing changed, unless there are 1 to 32
+    /// Opens the lock anew, with all parties away. Refused, with the book as it was, unless there are 1 to 32
     /// parties. A lock without counters ignores the start count.
     fn open(&mut self, parties: u32, start: u32) -> Result<(), OpenFault>
         ensures opens { Opening parties (book self.old) result (book self.new) }
@@ -57,22 +52,22 @@ pub trait Lock: Sized {
 
     /// Asks to read: the party is held off if a writer is posted or inside, else cleared.
     fn request_read(&mut self, party: u8) -> Result<Letter, LockFault>
-        ensures steps { Steps two (RequestRead party) (book self.old) result (book self.new) }
+        ensures steps { Steps TWO_STEP (RequestRead party) (book self.old) result (book self.new) }
         ensures own { moved self.old (RequestRead party) result self.new };
 
     /// Asks to write: the party is put at the end of the line.
     fn request_write(&mut self, party: u8) -> Result<Letter, LockFault>
-        ensures steps { Steps two (RequestWrite party) (book self.old) result (book self.new) }
+        ensures steps { Steps TWO_STEP (RequestWrite party) (book self.old) result (book self.new) }
         ensures own { moved self.old (RequestWrite party) result self.new };
 
     /// Takes the party's next step, if it may be taken yet.
     fn advance(&mut self, party: u8) -> Result<Letter, LockFault>
-        ensures steps { Steps two (Advance party) (book self.old) result (book self.new) }
+        ensures steps { Steps TWO_STEP (Advance party) (book self.old) result (book self.new) }
         ensures own { moved self.old (Advance party) result self.new };
 
     /// Leaves from inside. A writer's leave clears every reader held off.
     fn leave(&mut self, party: u8) -> Result<Letter, LockFault>
-        ensures steps { Steps two (Leave party) (book self.old) result (book self.new) }
+        ensures steps { Steps TWO_STEP (Leave party) (book self.old) result (book self.new) }
         ensures own { moved self.old (Leave party) result self.new };
 }
 
@@ -85,7 +80,7 @@ pub fn right_count(parties: u32) -> bool
 
 /// Makes a call that is given as a value, on any lock.
 pub fn make<L: Lock>(lock: &mut L, call: LockCall) -> Result<Letter, LockFault>
-    ensures steps { Steps L.Lock.two call (L.Lock.book lock.old) result (L.Lock.book lock.new) }
+    ensures steps { Steps L.Lock.TWO_STEP call (L.Lock.book lock.old) result (L.Lock.book lock.new) }
     ensures own { L.Lock.moved lock.old call result lock.new }
 {
     match call {

@@ -33,7 +33,7 @@ impl<L: Lock> Rig<L> {
     /// Opens the rig anew: all parties away, all told counts and cells at 0, no payout. Refused, with nothing changed,
     /// unless there are 1 to 32 parties.
     pub fn open(&mut self, parties: u32, start: u32) -> Result<(), OpenFault>
-        ensures takes { Takes L.Lock.two (opening parties start) (view L.Lock.book self.old) result (view L.Lock.book self.new) }
+        ensures takes { Takes L.Lock.TWO_STEP (opening parties start) (view L.Lock.book self.old) result (view L.Lock.book self.new) }
         ensures own { Owns L.Lock.moved L.Lock.began L.Lock.book (opening parties start) self.old result self.new }
     {
         self.lock.open(parties, start)?;
@@ -72,7 +72,7 @@ impl<L: Lock> Rig<L> {
 
     /// Asks to read.
     pub fn request_read(&mut self, party: u8) -> Result<Letter, RigFault>
-        ensures takes { Takes L.Lock.two (locks (RequestRead party)) (view L.Lock.book self.old) result (view L.Lock.book self.new) }
+        ensures takes { Takes L.Lock.TWO_STEP (locks (RequestRead party)) (view L.Lock.book self.old) result (view L.Lock.book self.new) }
         ensures own { Owns L.Lock.moved L.Lock.began L.Lock.book (locks (RequestRead party)) self.old result self.new }
     {
         self.must_be_there(party)?;
@@ -83,7 +83,7 @@ impl<L: Lock> Rig<L> {
 
     /// Asks to write.
     pub fn request_write(&mut self, party: u8) -> Result<Letter, RigFault>
-        ensures takes { Takes L.Lock.two (locks (RequestWrite party)) (view L.Lock.book self.old) result (view L.Lock.book self.new) }
+        ensures takes { Takes L.Lock.TWO_STEP (locks (RequestWrite party)) (view L.Lock.book self.old) result (view L.Lock.book self.new) }
         ensures own { Owns L.Lock.moved L.Lock.began L.Lock.book (locks (RequestWrite party)) self.old result self.new }
     {
         self.must_be_there(party)?;
@@ -94,7 +94,7 @@ impl<L: Lock> Rig<L> {
 
     /// Takes the party's next step, if it may be taken yet.
     pub fn advance(&mut self, party: u8) -> Result<Letter, RigFault>
-        ensures takes { Takes L.Lock.two (locks (Advance party)) (view L.Lock.book self.old) result (view L.Lock.book self.new) }
+        ensures takes { Takes L.Lock.TWO_STEP (locks (Advance party)) (view L.Lock.book self.old) result (view L.Lock.book self.new) }
         ensures own { Owns L.Lock.moved L.Lock.began L.Lock.book (locks (Advance party)) self.old result self.new }
     {
         self.must_be_there(party)?;
@@ -107,7 +107,7 @@ impl<L: Lock> Rig<L> {
 
     /// Leaves from inside, unless a payout is open.
     pub fn leave(&mut self, party: u8) -> Result<Letter, RigFault>
-        ensures takes { Takes L.Lock.two (locks (Leave party)) (view L.Lock.book self.old) result (view L.Lock.book self.new) }
+        ensures takes { Takes L.Lock.TWO_STEP (locks (Leave party)) (view L.Lock.book self.old) result (view L.Lock.book self.new) }
         ensures own { Owns L.Lock.moved L.Lock.began L.Lock.book (locks (Leave party)) self.old result self.new }
     {
         self.must_be_there(party)?;
@@ -120,7 +120,7 @@ impl<L: Lock> Rig<L> {
 
     /// What a cell holds. The party must be inside.
     pub fn look(&self, party: u8, cell: u8) -> Result<u32, RigFault>
-        ensures { Takes L.Lock.two (look party cell) (view L.Lock.book self.now) result (view L.Lock.book self.now) }
+        ensures { Takes L.Lock.TWO_STEP (look party cell) (view L.Lock.book self.now) result (view L.Lock.book self.now) }
     {
         self.must_be_inside(party)?;
         Ok(self.till.look(cell)?)
@@ -128,7 +128,7 @@ impl<L: Lock> Rig<L> {
 
     /// Adds to a cell, and answers its new reading. The party must be inside writing.
     pub fn fill(&mut self, party: u8, cell: u8, amount: u32) -> Result<u32, RigFault>
-        ensures takes { Takes L.Lock.two (fill party cell amount) (view L.Lock.book self.old) result (view L.Lock.book self.new) }
+        ensures takes { Takes L.Lock.TWO_STEP (fill party cell amount) (view L.Lock.book self.old) result (view L.Lock.book self.new) }
         ensures own { Owns L.Lock.moved L.Lock.began L.Lock.book (fill party cell amount) self.old result self.new }
     {
         self.must_be_writing(party)?;
@@ -137,7 +137,7 @@ impl<L: Lock> Rig<L> {
 
     /// Opens a payout of so many coins out of a cell. The party must be inside writing.
     pub fn begin(&mut self, party: u8, cell: u8, coins: u32) -> Result<(), RigFault>
-        ensures takes { Takes L.Lock.two (begin party cell coins) (view L.Lock.book self.old) result (view L.Lock.book self.new) }
+        ensures takes { Takes L.Lock.TWO_STEP (begin party cell coins) (view L.Lock.book self.old) result (view L.Lock.book self.new) }
         ensures own { Owns L.Lock.moved L.Lock.began L.Lock.book (begin party cell coins) self.old result self.new }
     {
         self.must_be_writing(party)?;
@@ -146,7 +146,7 @@ impl<L: Lock> Rig<L> {
 
     /// Drops one coin of the open payout, and answers the coins left. The party must be inside writing.
     pub fn drop_coin(&mut self, party: u8) -> Result<u32, RigFault>
-        ensures takes { Takes L.Lock.two (drop party) (view L.Lock.book self.old) result (view L.Lock.book self.new) }
+        ensures takes { Takes L.Lock.TWO_STEP (drop party) (view L.Lock.book self.old) result (view L.Lock.book self.new) }
         ensures own { Owns L.Lock.moved L.Lock.began L.Lock.book (drop party) self.old result self.new }
     {
         self.must_be_writing(party)?;
@@ -155,7 +155,7 @@ impl<L: Lock> Rig<L> {
 
     /// Ends the open payout, and answers the coins dropped and the coins left. The party must be inside writing.
     pub fn settle(&mut self, party: u8) -> Result<(u32, u32), RigFault>
-        ensures takes { Takes L.Lock.two (settle party) (view L.Lock.book self.old) result (view L.Lock.book self.new) }
+        ensures takes { Takes L.Lock.TWO_STEP (settle party) (view L.Lock.book self.old) result (view L.Lock.book self.new) }
         ensures own { Owns L.Lock.moved L.Lock.began L.Lock.book (settle party) self.old result self.new }
     {
         self.must_be_writing(party)?;

@@ -1,8 +1,9 @@
-ghost use Rattle.std.specs.Prelude.{◌≡◌};
+ghost use Rattle.std.specs.Prelude.{◌≡◌, ◌<◌};
+ghost use Rattle.std.proofs.Common.{rules};
 ghost use Rattle.rig_parts.specs.Numbers.{rig_number, rig_layer};
 ghost use Rattle.rig_parts.specs.declared.faults.RigFault.TheVariants.{OfLock, OfTill};
 
-use phase::faults::{Layer, LockFault};
+use phase::faults::{Fault, Layer, LockFault};
 use till::faults::TillFault;
 
 /// Why a rig refuses a call. A fault of the lock, of the cells or of the payout is carried whole.
@@ -32,10 +33,12 @@ impl From<TillFault> for RigFault {
     }
 }
 
-impl RigFault {
-    pub fn number(self) -> u8
-        ensures { result ≡ rig_number self }
-    {
+impl Fault for RigFault {
+    ghost number_of = { rig_number };
+
+    ghost layer_of = { rig_layer };
+
+    fn number(self) -> u8 {
         match self {
             RigFault::NoParty => 11,
             RigFault::OfLock(fault) => fault.number(),
@@ -44,14 +47,13 @@ impl RigFault {
         }
     }
 
-    pub fn layer(self) -> Layer
-        ensures { result ≡ rig_layer self }
-    {
+    fn layer(self) -> Layer {
         match self {
-            RigFault::NoParty => Layer::Rig,
+            RigFault::NoParty | RigFault::Paying => Layer::Rig,
             RigFault::OfLock(fault) => fault.layer(),
-            RigFault::Paying => Layer::Rig,
             RigFault::OfTill(fault) => fault.layer(),
         }
     }
+
+    ghost two_digits = { Prim.search rules };
 }

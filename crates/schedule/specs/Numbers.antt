@@ -12,6 +12,10 @@ abbrev pub word_number : WordFault → ℕ
 word_number Action = 43
 word_number Unused = 44
 
+-- a word is refused by its schedule
+abbrev pub word_layer : WordFault → Layer
+word_layer fault = layer.Schedule
+
 -- too long: 41; of odd length: 42
 abbrev pub number_of : ScheduleFault → ℕ
 number_of TooLong = 41

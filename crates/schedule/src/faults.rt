@@ -1,7 +1,17 @@
-ghost use Rattle.std.specs.Prelude.{◌≡◌};
-ghost use Rattle.schedule.specs.Numbers.{word_number, number_of, layer_of, place_of};
+ghost use Rattle.std.specs.Prelude.{◌≡◌, ◌<◌, ℕ};
+ghost use Rattle.std.proofs.Common.{rules};
+ghost use Rattle.schedule.specs.Numbers.{word_number, word_layer, number_of as schedule_number, layer_of as schedule_layer, place_of as schedule_place};
 
-use phase::faults::Layer;
+use phase::faults::{Fault, Layer};
+
+/// A refusal that names the word at fault.
+pub trait PlacedFault: Fault {
+    ghost place_of: { Self → ℕ };
+
+    /// The place of the word at fault, 0 where the fault is of no one word.
+    fn place(self) -> u16
+        ensures { result ≡ place_of self };
+}
 
 /// Why a word of a schedule is refused.
 #[derive(Clone, Copy, PartialEq, Eq, Debug)]
@@ -12,15 +22,25 @@ pub enum WordFault {
     Unused,
 }
 
-impl WordFault {
-    pub fn number(self) -> u8
-        ensures { result ≡ word_number self }
-    {
+impl Fault for WordFault {
+    ghost number_of = { word_number };
+
+    ghost layer_of = { word_layer };
+
+    fn number(self) -> u8 {
         match self {
             WordFault::Action => 43,
             WordFault::Unused => 44,
         }
     }
+
+    fn layer(self) -> Layer {
+        match self {
+            WordFault::Action | WordFault::Unused => Layer::Schedule,
+        }
+    }
+
+    ghost two_digits = { Prim.search rules };
 }
 
 /// Why a schedule is refused.
@@ -33,10 +53,12 @@ pub enum ScheduleFault {
     Word { place: u16, fault: WordFault },
 }
 
-impl ScheduleFault {
-    pub fn number(self) -> u8
-        ensures { result ≡ number_of self }
-    {
+impl Fault for ScheduleFault {
+    ghost number_of = { schedule_number };
+
+    ghost layer_of = { schedule_layer };
+
+    fn number(self) -> u8 {
         match self {
             ScheduleFault::TooLong => 41,
             ScheduleFault::OddLength => 42,
@@ -44,20 +66,21 @@ impl ScheduleFault {
         }
     }
 
-    pub fn layer(self) -> Layer
-        ensures { result ≡ layer_of self }
-    {
+    fn layer(self) -> Layer {
         match self {
             ScheduleFault::TooLong => Layer::Schedule,
             ScheduleFault::OddLength => Layer::Schedule,
-            ScheduleFault::Word { place: _, fault: _ } => Layer::Schedule,
+            ScheduleFault::Word { place: _, fault } => fault.layer(),
         }
     }
 
-    /// The place of the word at fault, 0 where the fault is of no one word.
-    pub fn place(self) -> u16
-        ensures { result ≡ place_of self }
-    {
+    ghost two_digits = { Prim.search rules };
+}
+
+impl PlacedFault for ScheduleFault {
+    ghost place_of = { schedule_place };
+
+    fn place(self) -> u16 {
         match self {
             ScheduleFault::TooLong => 0,
             ScheduleFault::OddLength => 0,

@@ -1,7 +1,8 @@
-ghost use Rattle.std.specs.Prelude.{◌≡◌};
+ghost use Rattle.std.specs.Prelude.{◌≡◌, ◌<◌};
+ghost use Rattle.std.proofs.Common.{rules};
 ghost use Rattle.till.specs.Numbers.{till_number, till_layer};
 
-use phase::faults::Layer;
+use phase::faults::{Fault, Layer};
 
 /// Why the cells or the payout refuse a call.
 #[derive(Clone, Copy, PartialEq, Eq, Debug)]
@@ -22,10 +23,12 @@ pub enum TillFault {
     TooFew,
 }
 
-impl TillFault {
-    pub fn number(self) -> u8
-        ensures { result ≡ till_number self }
-    {
+impl Fault for TillFault {
+    ghost number_of = { till_number };
+
+    ghost layer_of = { till_layer };
+
+    fn number(self) -> u8 {
         match self {
             TillFault::NoCell => 21,
             TillFault::PastLimit => 23,
@@ -37,17 +40,16 @@ impl TillFault {
         }
     }
 
-    pub fn layer(self) -> Layer
-        ensures { result ≡ till_layer self }
-    {
+    fn layer(self) -> Layer {
         match self {
-            TillFault::NoCell => Layer::Cells,
-            TillFault::PastLimit => Layer::Cells,
-            TillFault::AlreadyOpen => Layer::Payout,
-            TillFault::NoCoins => Layer::Payout,
-            TillFault::NoneOpen => Layer::Payout,
-            TillFault::NoneLeft => Layer::Payout,
-            TillFault::TooFew => Layer::Payout,
+            TillFault::NoCell | TillFault::PastLimit => Layer::Cells,
+            TillFault::AlreadyOpen
+            | TillFault::NoCoins
+            | TillFault::NoneOpen
+            | TillFault::NoneLeft
+            | TillFault::TooFew => Layer::Payout,
         }
     }
+
+    ghost two_digits = { Prim.search rules };
 }

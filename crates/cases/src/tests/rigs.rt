@@ -3,7 +3,7 @@ use dispatch::dispatch::dispatch;
 use dispatch::reply::Reply;
 use list_lock::lock::ListLock;
 use pft::lock::Pft;
-use phase::faults::LockFault;
+use phase::faults::{Fault, LockFault};
 use phase::kinds::Standing;
 use phase::lock::Lock;
 use rig::rig::Rig;
