@@ -1,14 +1,12 @@
 -- The words and calls of some bytes, read by their index and counted.
-use Rattle.std.proofs.Common.{◌≡◌, ℕ, zero, suc, ◌+◌, ◌-◌, ◌*◌, ◌/◌, ◌%◌, ◌<◌, ◌≤◌, Bool, true, false, cond, List, [], ◌∷◌, length, get_or, drop, is_ok, Some, None, Ok, Err, Option, Result, sym, refl, ap, ◌∙◌, inl, inr, arith}
+use Rattle.std.proofs.Common.{◌≡◌, ℕ, zero, suc, ◌+◌, ◌-◌, ◌*◌, ◌/◌, ◌%◌, ◌<◌, ◌≤◌, Bool, true, false, cond, List, [], ◌∷◌, ◌++◌, length, get_or, is_ok, Some, None, Ok, Err, Option, Result, sym, refl, ap, ◌∙◌, inl, inr, arith}
 use Rattle.std.specs.List.{slice_get}
 use Rattle.std.proofs.lemmas.Option.{slice_get_past as nth_past}
-use Rattle.std.proofs.lemmas.List.{drop_more}
 use Rattle.std.proofs.lemmas.Bool.{cases_lt, cond-true, cond-false, ne_eqb, eq-eqb, le-ltb, lt-ltb}
 use Rattle.phase.specs.declared.kinds.LockCall.{LockCall}
 use Rattle.schedule.specs.Word.{word_of, read_word}
 use Rattle.schedule.specs.Schedule.{words_of, calls_from, Calls, followed, listed, verdict, word_verdict, at_place, pair_at, pair_word, pair_call, taken, calls_of}
 use Rattle.schedule.specs.declared.faults.WordFault.{WordFault}
-use Rattle.schedule.specs.declared.faults.ScheduleFault.{ScheduleFault}
 
 pub words_length : (bs : List ℕ) → length (words_of bs) ≡ length bs / 2
 words_length [] = refl
@@ -98,24 +96,14 @@ calls_place bs (suc k) g = elim (cases_lt (2 * k + 1) (length bs)) [
 pub calls_within : (bs : List ℕ) → length bs ≤ 8192 → length bs % 2 ≡ 0 → calls_of bs ≡ calls_from 1 bs
 calls_within bs s e = cond-false _ _ _ (le-ltb 8192 (length bs) s) ∙ cond-true _ _ _ (eq-eqb (length bs % 2) 0 e)
 
-pub next_word : (bs : List ℕ) (i : ℕ) → 2 * i + 1 < length bs → drop (2 * i) bs ≡ get_or bs (2 * i) 0 ∷ get_or bs (2 * i + 1) 0 ∷ drop (2 * (i + 1)) bs
-next_word bs i h =
-    let e : 2 * i + 1 + 1 ≡ 2 * (i + 1) = omega arith in
-    drop_more bs (2 * i) 0 (omega arith)
-    ∙ ap (λ (xs : List ℕ). get_or bs (2 * i) 0 ∷ xs) (drop_more bs (2 * i + 1) 0 h ∙ ap (λ n. get_or bs (2 * i + 1) 0 ∷ drop n bs) e)
-
 good_word : (place : ℕ) (r : Result LockCall WordFault) (rest : Calls) → word_verdict place r ≡ Ok tt → verdict (followed place r rest) ≡ verdict rest
 good_word place (Err f) rest e = grind arith
 good_word place (Ok c) (Err f) e = refl
 good_word place (Ok c) (Ok cs) e = refl
 
-bad_word : (place : ℕ) (r : Result LockCall WordFault) (rest : Calls) (f : ScheduleFault) → word_verdict place r ≡ Err f → verdict (followed place r rest) ≡ Err f
-bad_word place (Err g) rest f e = e
-bad_word place (Ok c) rest f e = grind arith
-
--- what is left of the bytes decides past a good word, and a bad one decides
-pub passed : (bs : List ℕ) (i : ℕ) → 2 * i + 1 < length bs → Ok tt ≡ word_verdict (i + 1) (read_word (get_or bs (2 * i) 0) (get_or bs (2 * i + 1) 0)) → verdict (calls_from (i + 1) (drop (2 * i) bs)) ≡ verdict (calls_from (i + 1 + 1) (drop (2 * (i + 1)) bs))
-passed bs i h e = ap (λ xs. verdict (calls_from (i + 1) xs)) (next_word bs i h) ∙ good_word (i + 1) (read_word (get_or bs (2 * i) 0) (get_or bs (2 * i + 1) 0)) _ (sym e)
-
-pub stopped : (bs : List ℕ) (i : ℕ) (f : ScheduleFault) → 2 * i + 1 < length bs → Err f ≡ word_verdict (i + 1) (read_word (get_or bs (2 * i) 0) (get_or bs (2 * i + 1) 0)) → verdict (calls_from (i + 1) (drop (2 * i) bs)) ≡ Err f
-stopped bs i f h e = ap (λ xs. verdict (calls_from (i + 1) xs)) (next_word bs i h) ∙ bad_word (i + 1) (read_word (get_or bs (2 * i) 0) (get_or bs (2 * i + 1) 0)) _ f (sym e)
+-- past a good word what is left of the bytes decides
+pub passed : (place : ℕ) (word rest bs : List ℕ) → bs ≡ word ++ rest → length word ≡ 2 → Ok tt ≡ word_verdict place (read_word (get_or word 0 0) (get_or word 1 0)) → verdict (calls_from place bs) ≡ verdict (calls_from (place + 1) rest)
+passed place [] rest bs is two e = absurd (omega arith)
+passed place (h ∷ []) rest bs is two e = absurd (omega arith)
+passed place (h ∷ l ∷ []) rest bs is two e = ap (λ xs. verdict (calls_from place xs)) is ∙ good_word place (read_word h l) _ (sym e)
+passed place (h ∷ l ∷ x ∷ xs) rest bs is two e = absurd (omega arith)

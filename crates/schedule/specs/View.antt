@@ -13,7 +13,7 @@ words s = words_of s.bytes.now
 abbrev pub calls : Schedule → List LockCall
 calls s = listed (calls_of s.bytes.now)
 
--- the bytes are read as the schedule that they hold, or are refused and the schedule stays as it was
-abbrev pub Read : Schedule → List ℕ → Result (Unit {0}) ScheduleFault → Schedule → Type 0
-Read before bs (Ok u) after = (Ok (calls after) ≡ calls_of bs) × (words after ≡ words_of bs)
-Read before bs (Err f) after = (Err f ≡ calls_of bs) × (after ≡ before)
+-- the bytes are read as the schedule that they hold, or refused as they are to be
+abbrev pub Read : List ℕ → Result Schedule ScheduleFault → Type 0
+Read bs (Ok schedule) = (Ok (calls schedule) ≡ calls_of bs) × (words schedule ≡ words_of bs)
+Read bs (Err fault) = Err fault ≡ calls_of bs

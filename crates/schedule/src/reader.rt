@@ -16,16 +16,6 @@ impl<'a> Schedule<'a> {
         Schedule { bytes: &[] }
     }
 
-    /// Takes the schedule in some bytes, or says why they hold none and stays as it was.
-    pub fn read(&mut self, bytes: &'a [u8]) -> Result<(), ScheduleFault>
-        ensures { Read self.old bytes.now result self.new }
-    {
-        check_length(bytes.len())?;
-        check_words(bytes)?;
-        self.bytes = bytes;
-        Ok(())
-    }
-
     /// The number of words, each of which is a call.
     pub fn len(&self) -> u16
         ensures words { result ≡ length (words self.now) }
@@ -50,6 +40,18 @@ impl<'a> Schedule<'a> {
     }
 }
 
+impl<'a> TryFrom<&'a [u8]> for Schedule<'a> {
+    type Error = ScheduleFault;
+
+    ghost try_from_gives = { λ bytes result. Read bytes.now result };
+
+    fn try_from(bytes: &'a [u8]) -> Result<Schedule<'a>, ScheduleFault> {
+        check_length(bytes.len())?;
+        check_words(bytes)?;
+        Ok(Schedule { bytes })
+    }
+}
+
 /// At most 4,096 words of two bytes.
 fn check_length(length: usize) -> Result<(), ScheduleFault>
     ensures { result ≡ length_verdict length }
@@ -66,10 +68,8 @@ fn check_length(length: usize) -> Result<(), ScheduleFault>
 fn check_word(place: u16, high: u8, low: u8) -> Result<(), ScheduleFault>
     ensures { result ≡ word_verdict place (read_word high low) }
 {
-    match read_word(high, low) {
-        Ok(_) => Ok(()),
-        Err(fault) => Err(ScheduleFault::Word { place, fault }),
-    }
+    read_word(high, low).map_err(|fault| ScheduleFault::Word { place, fault })?;
+    Ok(())
 }
 
 fn count_words(length: usize) -> u16
@@ -83,11 +83,9 @@ fn count_words(length: usize) -> u16
 fn pair_at(bytes: &[u8], place: u16) -> Option<(u8, u8)>
     ensures { result ≡ pair_at bytes.now place }
 {
-    let end = 2 * usize::from(place);
-    if end == 0 || end > bytes.len() {
-        return None;
-    }
-    Some((bytes[end - 2], bytes[end - 1]))
+    let start = 2 * usize::from(place.checked_sub(1)?);
+    let pair = bytes.get(start..start + 2)?;
+    Some((pair[0], pair[1]))
 }
 
 fn word_at(bytes: &[u8], place: u16) -> Option<u16>
@@ -109,8 +107,8 @@ fn check_words(bytes: &[u8]) -> Result<(), ScheduleFault>
     requires { (length bytes.now ≤ 8192) × (length bytes.now % 2 ≡ 0) }
     ensures { result ≡ verdict (calls_from 1 bytes.now) }
 {
-    for i in 0..bytes.len() / 2 {
-        check_word((i + 1) as u16, bytes[2 * i], bytes[2 * i + 1])?;
+    for (i, word) in bytes.chunks_exact(2).enumerate() {
+        check_word((i + 1) as u16, word[0], word[1])?;
     }
     Ok(())
 }

@@ -8,7 +8,7 @@ use phase::kinds::LockCall;
 pub fn word_of(high: u8, low: u8) -> u16
     ensures { result ≡ Rattle.schedule.specs.Word.word_of high low }
 {
-    u16::from(high) * 256 + u16::from(low)
+    u16::from_be_bytes([high, low])
 }
 
 /// The call of an action's number, if it is one.
@@ -29,9 +29,7 @@ pub fn read_word(high: u8, low: u8) -> Result<LockCall, WordFault>
     ensures { result ≡ read_word high low }
 {
     let party = high % 16 * 2 + low / 128;
-    let Some(call) = call_by(high / 16, party) else {
-        return Err(WordFault::Action);
-    };
+    let call = call_by(high / 16, party).ok_or(WordFault::Action)?;
     if low % 128 != 0 {
         return Err(WordFault::Unused);
     }
