@@ -8,7 +8,6 @@ use Rattle.schedule.specs.Numbers.{number_of, place_of}
 use Rattle.schedule.specs.declared.faults.ScheduleFault.{ScheduleFault}
 use Rattle.listing_lines.specs.Digits.{digits}
 use Rattle.listing_lines.specs.declared.lines.Line.{Line}
-use Rattle.listing_lines.specs.declared.lines.Line.TheVariants.{Accepted, Refused}
 
 -- a refusal is an x and the number of its fault
 abbrev pub refusal : ℕ → List ℕ
@@ -31,7 +30,6 @@ last_line rin rout win wout = digits 8 16 rin ++ (32 ∷ digits 8 16 rout ++ (32
 abbrev pub refusal_line : ScheduleFault → List ℕ
 refusal_line fault = refusal (number_of fault) ++ (32 ∷ digits 4 10 (place_of fault) ++ (10 ∷ []))
 
--- the bytes of a word's line
+-- the bytes of a line
 abbrev pub text : Line → List ℕ
-text (Accepted bytes) = bytes
-text (Refused bytes) = bytes
+text l = l.bytes.items
