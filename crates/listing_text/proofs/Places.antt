@@ -1,10 +1,9 @@
 -- A listing read word by word, and how long its lines are.
-use Rattle.std.proofs.Common.{◌≡◌, ℕ, zero, suc, ◌+◌, ◌-◌, ◌*◌, ◌<◌, ◌≤◌, cond, ltb, List, [], ◌∷◌, ◌++◌, length, get_or, take, drop, Some, None, Ok, Err, Option, Result, sym, ap, ◌∙◌, inl, inr, append_assoc, add-one, arith, length-append, length-drop, length-take, drop-cons}
-use Rattle.std.proofs.lemmas.List.{take_all, take_at, drop_at, drop_all, drop-drop}
-use Rattle.std.proofs.lemmas.Option.{slice_get-get_or}
+use Rattle.std.proofs.Common.{◌≡◌, ℕ, zero, suc, ◌+◌, ◌-◌, ◌*◌, ◌<◌, ◌≤◌, cond, ltb, List, [], ◌∷◌, ◌++◌, length, get_or, take, drop, Some, Ok, Err, Result, sym, ap, ◌∙◌, inl, inr, append_assoc, arith, length-take, drop-cons}
+use Rattle.std.proofs.lemmas.List.{take_all, drop_all, drop-drop, take-append-drop, length-take-le}
+use Rattle.std.proofs.lemmas.Option.{get_or_from_slice_get}
 use Rattle.std.proofs.lemmas.Bool.{cases_lt, lt-ltb, cond-true}
 use Rattle.phase.specs.Book.{Answer}
-use Rattle.phase.specs.declared.kinds.LockCall.{LockCall}
 use Rattle.phase.specs.declared.kinds.LockCall.TheVariants.{RequestRead}
 use Rattle.pft.specs.Model.{State, answer, after}
 use Rattle.schedule.specs.declared.faults.ScheduleFault.TheVariants.{TooLong}
@@ -12,18 +11,19 @@ use Rattle.schedule.specs.Schedule.{words_of, calls_of, at_place, Calls, listed}
 use Rattle.schedule.specs.View.{words, calls}
 use Rattle.schedule.specs.declared.view.Schedule.{Schedule}
 use Rattle.schedule.proofs.Words.{words_length, calls_length, calls_within}
-use Rattle.listing_lines.specs.Lines.{line, refusal_line}
+use Rattle.listing_lines.specs.Lines.{line}
 use Rattle.listing_lines.specs.declared.faults.ListingFault.{ListingFault}
-use Rattle.listing_lines.specs.declared.faults.ListingFault.TheVariants.{Space, OfSchedule}
-use Rattle.schedule.specs.declared.faults.ScheduleFault.{ScheduleFault}
-use Rattle.listing_text.specs.Listing.{call_at, line_at, last, lines_from, longest, text_from, text_of, print_from, Written}
+use Rattle.listing_lines.specs.declared.faults.ListingFault.TheVariants.{Space}
+use Rattle.listing_text.specs.declared.text.Text.{Text}
+use Rattle.listing_text.specs.Listing.{call_at, line_at, last, lines_from, longest, text_from, text_of}
 
--- what a list has at a place that it has
-pub at_place_is : {X : Type 0} (xs : List X) (k : ℕ) (d : X) → 0 < k → k ≤ length xs → at_place xs k ≡ Some (get_or xs (k - 1) d)
-at_place_is xs zero d h l = absurd (omega arith)
-at_place_is xs (suc k) d h l =
-    let e : suc k - 1 ≡ k = omega arith in
-    slice_get-get_or xs k d (omega arith) ∙ ap (λ (n : ℕ). Some (get_or xs n d)) (sym e)
+-- what a list has at a place
+pub there_is : {X : Type 0} (xs : List X) (k : ℕ) (d x : X) → at_place xs k ≡ Some x → get_or xs (k - 1) d ≡ x
+there_is xs zero d x is = grind arith
+there_is xs (suc k) d x is = let here : suc k - 1 ≡ k = omega arith in rw here (get_or_from_slice_get xs k x d is)
+
+pub few_words : (s : Schedule) → length (words s) ≤ 4096
+few_words s = let n = words_length s.bytes.now in let short = s.short in omega (arith, n, short)
 
 -- a schedule has as many calls as words
 pub as_many : (s : Schedule) → length (calls s) ≡ length (words s)
@@ -35,124 +35,71 @@ pub line_short : (place word : ℕ) (a : Answer) → length (line place word a) 
 line_short place word (Ok l) = omega arith
 line_short place word (Err f) = omega arith
 
--- some value that is read is the one that stands there
-pub read_there : {X : Type 0} (o : Option X) (x : X) (xs : List X) (k : ℕ) (d : X) → o ≡ Some x → o ≡ at_place xs k → 0 < k → k ≤ length xs → x ≡ get_or xs (k - 1) d
-read_there o x xs k d e f h l = let g = at_place_is xs k d h l in cc
-
--- and none is read only where nothing stands
-pub none_there : {X : Type 0} (o : Option X) (xs : List X) (k : ℕ) (d : X) → o ≡ None → o ≡ at_place xs k → 0 < k → k ≤ length xs → ⊥
-none_there o xs k d e f h l = let g = at_place_is xs k d h l in let z : ◌≡◌ {A = ℕ} 0 1 = cc in omega arith
-
-pub line_is : (s : Schedule) (place w : ℕ) (k : LockCall) (st : State) → w ≡ get_or (words s) (place - 1) 0 → k ≡ call_at s place → line place w (answer k st) ≡ line_at s place st
-unfolding line_at
-line_is s place w k st e f = ap (λ (n : ℕ). line place n (answer k st)) e ∙ ap (λ (x : LockCall). line place (get_or (words s) (place - 1) 0) (answer x st)) f
-
 pub line_at_short : (s : Schedule) (place : ℕ) (st : State) → length (line_at s place st) ≤ 14
 unfolding line_at
 line_at_short s place st = line_short place (get_or (words s) (place - 1) 0) (answer (call_at s place) st)
 
--- the lines from a word on are its own and those that follow
-pub lines_step : (s : Schedule) (i : ℕ) (st : State) → i < length (words s) → lines_from (i + 1) st (drop i (words s)) (drop i (calls s)) ≡ line_at s (i + 1) st ++ lines_from (i + 1 + 1) (after (call_at s (i + 1)) st) (drop (i + 1) (words s)) (drop (i + 1) (calls s))
+-- the lines from the word at a place on, and the last line
+abbrev pub rest_from : Schedule → ℕ → State → List ℕ
+rest_from s place st = lines_from place st (drop (place - 1) (words s)) (drop (place - 1) (calls s))
+
+-- they are the word's own line and those that follow
+pub next_line : (s : Schedule) (place : ℕ) (st : State) → 0 < place → place ≤ length (words s) → rest_from s place st ≡ line_at s place st ++ rest_from s (place + 1) (after (call_at s place) st)
 unfolding line_at
-lines_step s i st h =
-    let m = as_many s in
-    let d : LockCall = RequestRead 0 in
-    let ws : List ℕ = words s in
-    let cs : List LockCall = calls s in
-    let back : i ≡ i + 1 - 1 = omega arith in
-    let a : drop i ws ≡ get_or ws i 0 ∷ drop (suc i) ws = drop-cons ws i 0 h in
-    let b : drop i cs ≡ get_or cs i d ∷ drop (suc i) cs = drop-cons cs i d (omega (arith, m)) in
-    ap (λ (x : List ℕ). lines_from (i + 1) st x (drop i cs)) a
-    ∙ ap (λ (y : List LockCall). lines_from (i + 1) st (get_or ws i 0 ∷ drop (suc i) ws) y) b
-    ∙ ap (λ (n : ℕ). line (i + 1) (get_or ws n 0) (answer (get_or cs n d) st) ++ lines_from (i + 1 + 1) (after (get_or cs n d) st) (drop (suc i) ws) (drop (suc i) cs)) back
-    ∙ ap (λ (n : ℕ). line (i + 1) (get_or ws (i + 1 - 1) 0) (answer (get_or cs (i + 1 - 1) d) st) ++ lines_from (i + 1 + 1) (after (get_or cs (i + 1 - 1) d) st) (drop n ws) (drop n cs)) (sym (add-one i))
+next_line s zero st some there = absurd (omega arith)
+next_line s (suc i) st some there =
+    let many = as_many s in
+    let here : suc i - 1 ≡ i = omega arith in
+    let next : suc i + 1 - 1 ≡ suc i = omega arith in
+    let word : drop i (words s) ≡ get_or (words s) i 0 ∷ drop (suc i) (words s) = drop-cons (words s) i 0 (omega arith) in
+    let call : drop i (calls s) ≡ get_or (calls s) i (RequestRead 0) ∷ drop (suc i) (calls s) = drop-cons (calls s) i (RequestRead 0) (omega (arith, many)) in
+    rw (here, next, word, call)
 
 -- after the last word there is the last line
-pub lines_end : (s : Schedule) (i : ℕ) (place : ℕ) (st : State) → length (words s) ≤ i → lines_from place st (drop i (words s)) (drop i (calls s)) ≡ last st
-lines_end s i place st h =
-    let m = as_many s in
-    let a : drop i (words s) ≡ [] = drop_all i (words s) h in
-    let b : drop i (calls s) ≡ [] = drop_all i (calls s) (omega (arith, m)) in
-    ap (λ (x : List ℕ). lines_from place st x (drop i (calls s))) a ∙ ap (λ (y : List LockCall). lines_from place st [] y) b
+pub no_more : (s : Schedule) (place : ℕ) (st : State) → length (words s) < place → rest_from s place st ≡ last st
+no_more s place st past =
+    let many = as_many s in
+    let word : drop (place - 1) (words s) ≡ [] = drop_all (place - 1) (words s) (omega arith) in
+    let call : drop (place - 1) (calls s) ≡ [] = drop_all (place - 1) (calls s) (omega (arith, many)) in
+    rw (word, call)
 
--- bytes written behind others
-module _ (out : List ℕ) (at : ℕ) (bs : List ℕ) (room : at + length bs ≤ length out) where
-  abbrev front : List ℕ
-  front = take at out ++ bs
+-- where nothing behind a place has changed, nothing behind a later one has
+pub still : (n at : ℕ) (xs ys : List ℕ) → drop at xs ≡ drop at ys → drop (at + n) xs ≡ drop (at + n) ys
+still n at xs ys e = sym (drop-drop n at xs) ∙ ap (drop n) e ∙ drop-drop n at ys
 
-  long : length (take at out ++ bs) ≡ at + length bs
-  long = simp (length-append, length-take) (omega arith)
+-- what is written, and what nothing was written to
+pub whole_text : (t : Text) (first whole : List ℕ) → t.len ≤ length t.space.now → take t.len t.space.now ≡ whole → drop t.len t.space.now ≡ drop t.len first → t.space.now ≡ whole ++ drop (length whole) first
+whole_text t first whole room written rest =
+    let len : t.len ≡ length whole = sym (length-take-le t.len t.space.now room) ∙ ap length written in
+    sym (take-append-drop t.len t.space.now) ∙ rw (written, rest, len)
 
-  whole : take at out ++ (bs ++ drop (at + length bs) out) ≡ (take at out ++ bs) ++ drop (at + length bs) out
-  whole = sym (append_assoc (take at out) bs (drop (at + length bs) out))
+-- where words are listed one after another, with a word's place at hand: what is written and what is still to be
+-- written are the whole, and nothing behind it has changed
+pub record SoFar (s : Schedule) (first : Text) (whole : List ℕ) (place : ℕ) (st : State) (t : Text) : Type 0 where
+  pub same_reference : t.space.ghost_name ≡ first.space.ghost_name
+  pub written : take t.len t.space.now ++ rest_from s place st ≡ whole
+  pub rest : drop t.len t.space.now ≡ drop t.len first.space.now
+  pub room : length t.space.now ≡ length first.space.now
+  pub short : t.len ≤ first.len + 14 * (place - 1)
+  pub within : place ≤ length (words s) + 1
 
-  pub put_take : take (at + length bs) (take at out ++ (bs ++ drop (at + length bs) out)) ≡ take at out ++ bs
-  put_take = ap (take (at + length bs)) whole ∙ take_at (take at out ++ bs) (drop (at + length bs) out) (at + length bs) long
+module _ (s : Schedule) (first t : Text) (whole : List ℕ) (place : ℕ) (st : State) (so_far : SoFar s first whole place st t) where
+  -- after one more word
+  pub one_more : (t' : Text) (st' : State) (bytes : List ℕ) → 0 < place → place ≤ length (words s) → bytes ≡ line_at s place st → st' ≡ after (call_at s place) st → t'.space.ghost_name ≡ t.space.ghost_name → t'.len ≡ t.len + length bytes → take t'.len t'.space.now ≡ take t.len t.space.now ++ bytes → drop t'.len t'.space.now ≡ drop t'.len t.space.now → length t'.space.now ≡ length t.space.now → SoFar s first whole (place + 1) st' t'
+  one_more t' st' bytes some there line state_is name len written rest room =
+      let short : length bytes ≤ 14 = rw line (line_at_short s place st) in
+      record {
+        same_reference = name ∙ so_far.same_reference;
+        written = rw (written, line, state_is) (append_assoc (take t.len t.space.now) (line_at s place st) (rest_from s (place + 1) (after (call_at s place) st)) ∙ ap (λ (x : List ℕ). take t.len t.space.now ++ x) (sym (next_line s place st some there)) ∙ so_far.written);
+        rest = rest ∙ rw len (still (length bytes) t.len t.space.now first.space.now so_far.rest);
+        room = room ∙ so_far.room;
+        short = omega arith;
+        within = omega arith;
+      }
 
-  pub put_drop : drop (at + length bs) (take at out ++ (bs ++ drop (at + length bs) out)) ≡ drop (at + length bs) out
-  put_drop = ap (drop (at + length bs)) whole ∙ drop_at (take at out ++ bs) (drop (at + length bs) out) (at + length bs) long
-
-  pub put_length : length (take at out ++ (bs ++ drop (at + length bs) out)) ≡ length out
-  put_length = simp (length-append, length-take, length-drop) (omega arith)
-
-  -- where nothing behind the place had changed, nothing behind the new place has
-  pub still : (first : List ℕ) → drop at out ≡ drop at first → drop (at + length bs) out ≡ drop (at + length bs) first
-  still first e = sym (drop-drop (length bs) at out) ∙ ap (drop (length bs)) e ∙ drop-drop (length bs) at first
-
--- the loop's invariant after one more word
-pub one_more : (s : Schedule) (i : ℕ) (st st' : State) (out out' first : List ℕ) (at at' : ℕ) (t : List ℕ) → i < length (words s) → at + 14 ≤ length out → take at out ++ lines_from (i + 1) st (drop i (words s)) (drop i (calls s)) ≡ t → drop at out ≡ drop at first → length out ≡ length first → at ≤ 14 * i → at' ≡ at + length (line_at s (i + 1) st) → out' ≡ take at out ++ (line_at s (i + 1) st ++ drop (at + length (line_at s (i + 1) st)) out) → st' ≡ after (call_at s (i + 1)) st → (take at' out' ++ lines_from (i + 1 + 1) st' (drop (i + 1) (words s)) (drop (i + 1) (calls s)) ≡ t) × (drop at' out' ≡ drop at' first) × (length out' ≡ length first) × (at' ≤ 14 * (i + 1))
-one_more s i st st' out out' first at at' t h room all rest long far ea eo es =
-    let ln : List ℕ = line_at s (i + 1) st in
-    let short = line_at_short s (i + 1) st in
-    let fits : at + length (line_at s (i + 1) st) ≤ length out = omega (arith, short, room) in
-    let R : State → List ℕ = λ z. lines_from (i + 1 + 1) z (drop (i + 1) (words s)) (drop (i + 1) (calls s)) in (
-      ap (λ (n : ℕ). take n out' ++ R st') ea
-          ∙ ap (λ (o : List ℕ). take (at + length (line_at s (i + 1) st)) o ++ R st') eo
-          ∙ ap (λ (x : List ℕ). x ++ R st') (put_take out at (line_at s (i + 1) st) fits)
-          ∙ ap (λ (z : State). (take at out ++ line_at s (i + 1) st) ++ R z) es
-          ∙ append_assoc (take at out) (line_at s (i + 1) st) (R (after (call_at s (i + 1)) st))
-          ∙ ap (λ (x : List ℕ). take at out ++ x) (sym (lines_step s i st h))
-          ∙ all,
-      ap (λ (n : ℕ). drop n out') ea
-          ∙ ap (drop (at + length (line_at s (i + 1) st))) eo
-          ∙ put_drop out at (line_at s (i + 1) st) fits
-          ∙ still out at (line_at s (i + 1) st) fits first rest
-          ∙ ap (λ (n : ℕ). drop n first) (sym ea),
-      ap length eo ∙ put_length out at (line_at s (i + 1) st) fits ∙ long,
-      omega (arith, short, far, ea),
-    )
-
--- and what stands after the last line
-pub all_done : (s : Schedule) (i : ℕ) (st : State) (out out' first : List ℕ) (at r : ℕ) (t ll : List ℕ) → length (words s) ≤ i → at + 36 ≤ length out → take at out ++ lines_from (i + 1) st (drop i (words s)) (drop i (calls s)) ≡ t → drop at out ≡ drop at first → ll ≡ last st → r ≡ at + length ll → out' ≡ take at out ++ (ll ++ drop (at + length ll) out) → (r ≡ length t) × (out' ≡ t ++ drop (length t) first)
-all_done s i st out out' first at r t ll h room all rest el er eo =
-    let len : length ll ≡ 36 = ap length el in
-    let fits : at + length ll ≤ length out = omega (arith, len, room) in
-    let is : take at out ++ ll ≡ t = ap (λ (x : List ℕ). take at out ++ x) (el ∙ sym (lines_end s i (i + 1) st h)) ∙ all in
-    let size : at + length ll ≡ length t = sym (long out at ll fits) ∙ ap length is in (
-      er ∙ size,
-      eo ∙ sym (append_assoc (take at out) ll (drop (at + length ll) out))
-          ∙ ap (λ (x : List ℕ). x ++ drop (at + length ll) out) is
-          ∙ ap (λ (x : List ℕ). t ++ x) (still out at ll fits first rest)
-          ∙ ap (λ (n : ℕ). t ++ drop n first) size,
-    )
-
--- what a refusal says
-pub refused_as : (x : Result (List ℕ) ListingFault) (before space : List ℕ) (g : ListingFault) → Written x before (Err g) space → (x ≡ Err g) × (space ≡ before)
-refused_as (Ok t) before space g h = let e = h.0 in let z : ◌≡◌ {A = ℕ} 0 1 = cc in absurd (omega arith)
-refused_as (Err f) before space g h = let e = h.0 in (cc, h.1)
-
--- what is printed of a schedule's refusal
-pub print_of_schedule : (fault : ListingFault) (f : ScheduleFault) → fault ≡ OfSchedule f → print_from (Err fault) ≡ Ok (refusal_line f)
-print_of_schedule fault f e = ap (λ (x : ListingFault). print_from (Err x)) e
-
--- a schedule is refused only where the space suffices
-pub room_then : (input : List ℕ) (n : ℕ) (fault : ListingFault) (f : ScheduleFault) → text_of input n ≡ Err fault → fault ≡ OfSchedule f → 57380 ≤ n
-room_then input n fault f e g = elim (cases_lt n 57380) [
-  | inl h ↦
-      let s : text_of input n ≡ Err Space = cond-true _ _ _ (lt-ltb n 57380 h) in
-      let z : ◌≡◌ {A = ℕ} 0 1 = cc in absurd (omega arith)
-  | inr h ↦ h
-]
+  -- after the last word
+  pub all_listed : length (words s) < place → (take t.len t.space.now ++ last st ≡ whole) × (t.len ≤ first.len + 14 * length (words s))
+  all_listed past = (ap (λ (x : List ℕ). take t.len t.space.now ++ x) (sym (no_more s place st past)) ∙ so_far.written, omega arith)
 
 -- of an input that is too long, one byte more than the longest schedule shows it
 pub too_long : (input : List ℕ) → 8192 < length input → calls_of input ≡ Err TooLong

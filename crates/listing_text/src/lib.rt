@@ -1,11 +1,14 @@
 #![tactic(auto)]
 
-ghost use Rattle.std.specs.Prelude.{◌≡◌, ◌+◌, ◌<◌, ◌≤◌, ◌++◌, length, take, drop, IfOk, nat_lt};
+ghost use Rattle.std.specs.Prelude.{◌≡◌, ◌+◌, ◌*◌, ◌<◌, ◌≤◌, ◌++◌, length, take, drop, IfOk, nat_lt};
 ghost use Rattle.listing_lines.specs.Lines.{line, text, last_line, refusal_line};
 ghost use Rattle.pft.specs.Model.{state, opened, answer, after};
 ghost use Rattle.schedule.specs.View.{words, calls};
-ghost use Rattle.listing_text.specs.Listing.{call_at, line_at, lines_from, longest, Suffices, Listed, Printed};
+ghost use Rattle.listing_text.specs.Listing.{call_at, line_at, last, lines_from, longest, Suffices, Listed, Printed};
 
+mod text;
+
+use crate::text::Text;
 use listing_lines::faults::ListingFault;
 use listing_lines::lines::{Line, last_line, refusal_line};
 use pft::lock::Pft;
@@ -34,12 +37,10 @@ pub fn listing_text(input: &[u8], out: &mut [u8]) -> Result<usize, ListingFault>
     ensures bytes { Listed input.now out.old result out.new }
     ensures within { IfOk result (λ length_of. length_of ≤ length out.old) }
 {
-    let small = too_small(out.len());
-    if small {
+    if out.len() < MOST {
         return Err(ListingFault::Space);
     }
-    let mut schedule = Schedule::empty();
-    schedule.read(input)?;
+    let schedule = Schedule::try_from(input)?;
     let mut lock = new_lock();
     Ok(list_words(&schedule, &mut lock, out))
 }
@@ -51,11 +52,8 @@ pub fn print_text(input: &[u8], out: &mut [u8]) -> Result<usize, ListingFault>
     ensures within { IfOk result (λ length_of. length_of ≤ length out.old) }
 {
     match listing_text(input, out) {
-        Ok(length) => Ok(length),
-        Err(fault) => match fault {
-            ListingFault::Space => Err(fault),
-            ListingFault::OfSchedule(refused) => Ok(put_refusal(out, refused)),
-        },
+        Err(ListingFault::OfSchedule(fault)) => Ok(put_refusal(out, fault)),
+        listed => listed,
     }
 }
 
@@ -67,36 +65,22 @@ fn new_lock() -> Pft
     lock
 }
 
-fn too_small(space: usize) -> bool
-    ensures { result ≡ nat_lt space longest }
-{
-    space < MOST
-}
-
-// Writes bytes from a place on, and answers the place behind them.
-fn put_at(out: &mut [u8], at: usize, bytes: &[u8]) -> usize
-    requires { at + length bytes.now ≤ length out.old }
-    ensures behind { result ≡ at + length bytes.now }
-    ensures after { out.new ≡ take at out.old ++ (bytes.now ++ drop (at + length bytes.now) out.old) }
-{
-    let end = at + bytes.len();
-    out[at..end].copy_from_slice(bytes);
-    end
-}
-
 // Writes the line of a refused schedule at the start of the space.
 fn put_refusal(out: &mut [u8], fault: ScheduleFault) -> usize
     requires { 9 ≤ length out.old }
     ensures behind { result ≡ 9 }
     ensures after { out.new ≡ refusal_line fault ++ drop 9 out.old }
 {
-    put_at(out, 0, &refusal_line(fault))
+    let line = refusal_line(fault);
+    let mut printed = Text::new(out);
+    printed.put(line.bytes());
+    printed.len
 }
 
-fn line_of(words: Words) -> [u8; 36]
-    ensures { result ≡ last_line words.rin words.rout words.win words.wout }
+fn line_of(words: Words) -> Line
+    ensures { text result ≡ last_line words.rin words.rout words.win words.wout }
 {
-    last_line(words.rin, words.rout, words.win, words.wout)
+    last_line([words.rin, words.rout, words.win, words.wout])
 }
 
 // Makes a word's call on the lock, and gives the word's line.
@@ -108,22 +92,30 @@ fn step(lock: &mut Pft, place: u16, word: u16, call: LockCall) -> Line
     Line::new(place, word, answer)
 }
 
-// Makes the call of the word at a place, and writes its line.
-fn list_word(schedule: &Schedule, place: u16, lock: &mut Pft, out: &mut [u8], at: usize) -> usize
-    requires there { (0 < place) × (place ≤ length (words schedule.now)) }
-    requires room { at + 14 ≤ length out.old }
-    ensures behind { result ≡ at + length (line_at schedule.now place (state lock.old)) }
-    ensures after { out.new ≡ take at out.old ++ (line_at schedule.now place (state lock.old) ++ drop (at + length (line_at schedule.now place (state lock.old))) out.old) }
+// Makes the call of the word at a place, and gives the word's line.
+fn list_word(schedule: &Schedule, place: u16, lock: &mut Pft) -> Line
+    requires { (0 < place) × (place ≤ length (words schedule.now)) × (place ≤ length (calls schedule.now)) }
+    ensures line { text result ≡ line_at schedule.now place (state lock.old) }
     ensures words { state lock.new ≡ after (call_at schedule.now place) (state lock.old) }
 {
-    let Some(word) = schedule.word(place) else {
-        return at;
-    };
-    let Some(call) = schedule.call(place) else {
-        return at;
-    };
-    let line = step(lock, place, word, call);
-    put_at(out, at, line.bytes())
+    let word = schedule.word(place).unwrap();
+    let call = schedule.call(place).unwrap();
+    step(lock, place, word, call)
+}
+
+// Lists all words on a lock as it stands, up to the last line.
+fn list_calls(schedule: &Schedule, lock: &mut Pft, text: &mut Text)
+    requires { text.old.len + 14 * length (words schedule.now) ≤ length text.old.space.now }
+    ensures same_reference { text.new.space.ghost_name ≡ text.old.space.ghost_name }
+    ensures written { take text.new.len text.new.space.now ++ last (state lock.new) ≡ take text.old.len text.old.space.now ++ lines_from 1 (state lock.old) (words schedule.now) (calls schedule.now) }
+    ensures rest { drop text.new.len text.new.space.now ≡ drop text.new.len text.old.space.now }
+    ensures room { length text.new.space.now ≡ length text.old.space.now }
+    ensures short { text.new.len ≤ text.old.len + 14 * length (words schedule.now) }
+{
+    for place in 1..=schedule.len() {
+        let line = list_word(schedule, place, lock);
+        text.put(line.bytes());
+    }
 }
 
 // Lists all words on a lock as it stands, from the start of the space on, and answers the length of the text.
@@ -131,11 +123,11 @@ fn list_words(schedule: &Schedule, lock: &mut Pft, out: &mut [u8]) -> usize
     requires { longest ≤ length out.old }
     ensures fits { result ≤ length out.old }
     ensures behind { result ≡ length (lines_from 1 (state lock.old) (words schedule.now) (calls schedule.now)) }
-    ensures after { out.new ≡ lines_from 1 (state lock.old) (words schedule.now) (calls schedule.now) ++ drop (length (lines_from 1 (state lock.old) (words schedule.now) (calls schedule.now))) out.old }
+    ensures after { let listed = lines_from 1 (state lock.old) (words schedule.now) (calls schedule.now) in out.new ≡ listed ++ drop (length listed) out.old }
 {
-    let mut at = 0;
-    for i in 0..schedule.len() {
-        at = list_word(schedule, i + 1, lock, out, at);
-    }
-    put_at(out, at, &line_of(lock.words()))
+    let mut text = Text::new(out);
+    list_calls(schedule, lock, &mut text);
+    let last = line_of(lock.words());
+    text.put(last.bytes());
+    text.len
 }
