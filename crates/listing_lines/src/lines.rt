@@ -8,10 +8,13 @@ use phase::faults::{Fault, LockFault};
 use phase::kinds::Letter;
 use schedule::faults::{PlacedFault, ScheduleFault};
 
-/// A line of a listing. The longest is that of a lock's four words.
+/// The bytes of the longest line, that of a lock's four words.
+const LONGEST: usize = 36;
+
+/// A line of a listing.
 #[derive(Drop)]
 pub struct Line {
-    bytes: ArrayVec<u8, 36>,
+    bytes: ArrayVec<u8, LONGEST>,
 }
 
 impl Line {
@@ -53,6 +56,7 @@ pub fn last_line(words: [u32; 4]) -> Line
     ensures { text result ≡ last_line (slice_index words 0) (slice_index words 1) (slice_index words 2) (slice_index words 3) }
 {
     let mut line = Line::blank();
+    // A space behind each word, and behind the last the line's end.
     for (word, end) in words.iter().zip(b"   \n") {
         line.put(&digits::<8, 16>(*word));
         line.put(&[*end]);
@@ -71,7 +75,7 @@ impl Line {
 
     /// Appends bytes.
     fn put(&mut self, bytes: &[u8])
-        requires { length (text self.old) + length bytes.now ≤ 36 }
+        requires { length (text self.old) + length bytes.now ≤ LONGEST }
         ensures { text self.new ≡ text self.old ++ bytes.now }
     {
         self.bytes.try_extend_from_slice(bytes).unwrap();
@@ -79,7 +83,7 @@ impl Line {
 
     /// Appends what a word came to.
     fn put_outcome(&mut self, answer: Result<Letter, LockFault>)
-        requires { length (text self.old) ≤ 30 }
+        requires { length (text self.old) + 3 ≤ LONGEST }
         ensures { text self.new ≡ text self.old ++ outcome answer }
     {
         match answer {

@@ -73,8 +73,8 @@ whole_text t first whole room written rest =
     let len : t.len ≡ length whole = sym (length-take-le t.len t.space.now room) ∙ ap length written in
     sym (take-append-drop t.len t.space.now) ∙ rw (written, rest, len)
 
--- where words are listed one after another, with a word's place at hand: what is written and what is still to be
--- written are the whole, and nothing behind it has changed
+-- before the word at a place is listed: what is written and what is still to be written are the whole, and nothing
+-- behind what is written has changed
 pub record SoFar (s : Schedule) (first : Text) (whole : List ℕ) (place : ℕ) (st : State) (t : Text) : Type 0 where
   pub same_reference : t.space.ghost_name ≡ first.space.ghost_name
   pub written : take t.len t.space.now ++ rest_from s place st ≡ whole

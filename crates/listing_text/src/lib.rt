@@ -23,6 +23,7 @@ pub const MOST: usize = 57380;
 
 /// As many bytes of an input as the program has to read: one more than the longest schedule has. What follows them does not
 /// change the text.
+#[tactic(auto, using(crate::proofs::Places::suffices))]
 pub fn enough() -> u64
     ensures answer { result ≡ 8193 }
     ensures suffices { Suffices result }

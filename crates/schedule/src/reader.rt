@@ -17,6 +17,7 @@ impl<'a> Schedule<'a> {
     }
 
     /// The number of words, each of which is a call.
+    #[tactic(auto, using(crate::proofs::Words::words_length, crate::proofs::Words::calls_length, crate::proofs::Words::calls_within))]
     pub fn len(&self) -> u16
         ensures words { result ≡ length (words self.now) }
         ensures calls { result ≡ length (calls self.now) }
@@ -26,6 +27,7 @@ impl<'a> Schedule<'a> {
     }
 
     /// The word at a place, counted from 1.
+    #[tactic(auto, using(crate::proofs::Words::words_place))]
     pub fn word(&self, place: u16) -> Option<u16>
         ensures { result ≡ at_place (words self.now) place }
     {
@@ -33,6 +35,7 @@ impl<'a> Schedule<'a> {
     }
 
     /// The call of the word at a place, counted from 1.
+    #[tactic(auto, using(crate::proofs::Words::calls_place, crate::proofs::Words::calls_within))]
     pub fn call(&self, place: u16) -> Option<LockCall>
         ensures { result ≡ at_place (calls self.now) place }
     {
@@ -45,7 +48,7 @@ impl<'a> TryFrom<&'a [u8]> for Schedule<'a> {
 
     ghost try_from_gives = { λ bytes result. Read bytes.now result };
 
-    fn try_from(bytes: &'a [u8]) -> Result<Schedule<'a>, ScheduleFault> {
+    fn try_from(bytes: &'a [u8]) -> Result<Self, ScheduleFault> {
         check_length(bytes.len())?;
         check_words(bytes)?;
         Ok(Schedule { bytes })
