@@ -96,6 +96,6 @@ abbrev pub settled : Holding → TillOut (Result (ℕ × ℕ) TillFault)
 settled h = settled_as h.payout h
 
 -- the till answers and holds what the call comes to
-pub record TillTakes {T : Type 0} (want : TillOut T) (r : T) (after : Holding) : Type 0 where
-  pub answered : r ≡ want.answer
-  pub held : after ≡ want.after
+pub record TillTakes {T : Type 0} (call : Holding → TillOut T) (before : Till) (r : T) (after : Till) : Type 0 where
+  pub answered : r ≡ (call (holding before)).answer
+  pub held : holding after ≡ (call (holding before)).after

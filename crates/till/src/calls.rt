@@ -30,35 +30,36 @@ impl Till {
 
     /// What a cell holds.
     pub fn look(&self, cell: u8) -> Result<u32, TillFault>
-        ensures { TillTakes (looked cell (holding self.now)) result (holding self.now) }
+        ensures { TillTakes (looked cell) self.now result self.now }
     {
-        let i = cell_index(cell)?;
-        Ok(self.cells[i])
+        self.cells
+            .get(usize::from(cell))
+            .copied()
+            .ok_or(TillFault::NoCell)
     }
 
     /// Adds to a cell, and answers its new reading.
     pub fn fill(&mut self, cell: u8, amount: u32) -> Result<u32, TillFault>
-        ensures { TillTakes (filled cell amount (holding self.old)) result (holding self.new) }
+        ensures { TillTakes (filled cell amount) self.old result self.new }
     {
-        let i = cell_index(cell)?;
-        let held = self.cells[i];
+        let held = self.look(cell)?;
         let reading = risen(held, amount)?;
-        self.cells[i] = reading;
+        self.cells[usize::from(cell)] = reading;
         Ok(reading)
     }
 
     /// Opens a payout of so many coins out of a cell, for the party.
     pub fn begin(&mut self, party: u8, cell: u8, coins: u32) -> Result<(), TillFault>
-        ensures { TillTakes (begun_as party cell coins tt (holding self.old)) result (holding self.new) }
+        ensures { TillTakes (begun_as party cell coins tt) self.old result self.new }
     {
-        let i = cell_index(cell)?;
+        let held = self.look(cell)?;
         if self.is_paying() {
             return Err(TillFault::AlreadyOpen);
         }
         if coins == 0 {
             return Err(TillFault::NoCoins);
         }
-        if self.cells[i] < coins {
+        if held < coins {
             return Err(TillFault::TooFew);
         }
         self.payout = Some(Payout {
@@ -72,11 +73,9 @@ impl Till {
 
     /// Drops one coin of the open payout out of its cell, and answers the coins left.
     pub fn drop_coin(&mut self) -> Result<u32, TillFault>
-        ensures { TillTakes (coin_dropped (holding self.old)) result (holding self.new) }
+        ensures { TillTakes coin_dropped self.old result self.new }
     {
-        let Some(payout) = self.payout else {
-            return Err(TillFault::NoneOpen);
-        };
+        let payout = self.payout.ok_or(TillFault::NoneOpen)?;
         if payout.left == 0 {
             return Err(TillFault::NoneLeft);
         }
@@ -86,29 +85,17 @@ impl Till {
             dropped: payout.dropped + 1,
             ..payout
         });
-        self.cells[payout.cell as usize] -= 1;
+        self.cells[usize::from(payout.cell)] -= 1;
         Ok(left)
     }
 
     /// Ends the open payout, and answers the coins dropped and the coins left.
     pub fn settle(&mut self) -> Result<(u32, u32), TillFault>
-        ensures { TillTakes (settled (holding self.old)) result (holding self.new) }
+        ensures { TillTakes settled self.old result self.new }
     {
-        let Some(payout) = self.payout else {
-            return Err(TillFault::NoneOpen);
-        };
-        self.payout = None;
+        let payout = self.payout.take().ok_or(TillFault::NoneOpen)?;
         Ok((payout.dropped, payout.left))
     }
-}
-
-fn cell_index(cell: u8) -> Result<usize, TillFault>
-    ensures { result ≡ (if nat_lt cell 8 then Ok cell else Err NoCell) }
-{
-    if cell > 7 {
-        return Err(TillFault::NoCell);
-    }
-    Ok(usize::from(cell))
 }
 
 // The sum is made only where it does not pass the limit, so it cannot overflow.
