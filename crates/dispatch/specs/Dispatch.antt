@@ -1,12 +1,11 @@
 -- A call, given as a value, made on a rig: which call of the rig it is, and what it replies.
-use Rattle.std.specs.Prelude.{◌≡◌, ℕ, Bool, Ok, Err, Result}
-use Rattle.phase.specs.Book.{Book, Answer, Opened}
-use Rattle.phase.specs.declared.kinds.LockCall.{LockCall}
+use Rattle.std.specs.Prelude.{◌≡◌, ℕ, Ok, Err, Result}
+use Rattle.phase.specs.declared.lock.Lock.{Ghosts}
 use Rattle.phase.specs.declared.kinds.LockCall.TheVariants as K
-use Rattle.rig_parts.specs.View.{Ans, Takes, locks, look, fill, begin, drop, settle}
+use Rattle.rig_parts.specs.View.{Ans, locks, look, fill, begin, drop, settle}
 use Rattle.rig_parts.specs.View as rig
 use Rattle.rig_parts.specs.declared.faults.RigFault.{RigFault}
-use Rattle.rig.specs.Shown.{view, Owns}
+use Rattle.rig.specs.Shown.{RigTakes, Owns}
 use Rattle.rig.specs.declared.rig.Rig.{Rig}
 use Rattle.schedule.specs.declared.call.Call.{Call}
 use Rattle.schedule.specs.declared.call.Call.TheVariants.{RequestRead, RequestWrite, Advance, Leave, Look, Fill, Begin, Drop, Settle}
@@ -47,8 +46,8 @@ reply_to (Drop p) a = within Dropped a
 reply_to (Settle p) a = within paid_out a
 
 -- the rig takes the call with an answer that is replied, and its lock is as that call and that answer have it
-pub record Dispatches {L : Type 0} (moved : L → LockCall → Answer → L → Type 0) (began : L → ℕ → ℕ → Opened → L → Type 0) (book : L → Book) (two : Bool) (call : Call) (before : Rig L) (r : Result Reply RigFault) (after : Rig L) : Type 0 where
+pub record Dispatches {L : Type 0} (lock : Ghosts L) (call : Call) (before : Rig L) (r : Result Reply RigFault) (after : Rig L) : Type 0 where
   pub answer : Ans (made call)
-  pub takes : Takes two (made call) (view book before) answer (view book after)
-  pub own : Owns moved began book (made call) before answer after
+  pub takes : RigTakes lock (made call) before answer after
+  pub own : Owns lock (made call) before answer after
   pub replied : r ≡ reply_to call answer

@@ -1,11 +1,11 @@
-ghost use Rattle.std.specs.Prelude.{◌≡◌, if◌then◌else◌, Ok, Err, nat_lt};
+ghost use Rattle.std.specs.Prelude.{◌≡◌, Bool, if◌then◌else◌, Ok, Err, nat_lt};
 ghost use Rattle.phase.specs.Book.{standing as standing_in};
 ghost use Rattle.phase.specs.Standings.{is_inside, is_writing};
 ghost use Rattle.phase.specs.declared.faults.LockFault.TheVariants.{Unfit};
 ghost use Rattle.phase.specs.declared.kinds.LockCall.TheVariants.{RequestRead, RequestWrite, Advance, Leave};
-ghost use Rattle.rig_parts.specs.View.{Takes, opened, recorded, locks, look, fill, begin, drop, settle, opening};
+ghost use Rattle.rig_parts.specs.View.{opened, recorded, locks, look, fill, begin, drop, settle, opening};
 ghost use Rattle.rig_parts.specs.declared.faults.RigFault.TheVariants.{NoParty, OfLock};
-ghost use Rattle.rig.specs.Shown.{view, Owns};
+ghost use Rattle.rig.specs.Shown.{view, RigTakes, Owns};
 
 use crate::rig::Rig;
 use phase::faults::{LockFault, OpenFault};
@@ -33,8 +33,8 @@ impl<L: Lock> Rig<L> {
     /// Opens the rig anew: all parties away, all told counts and cells at 0, no payout. Refused, with nothing changed,
     /// unless there are 1 to 32 parties.
     pub fn open(&mut self, parties: u32, start: u32) -> Result<(), OpenFault>
-        ensures takes { Takes L.Lock.TWO_STEP (opening parties start) (view L.Lock.book self.old) result (view L.Lock.book self.new) }
-        ensures own { Owns L.Lock.moved L.Lock.began L.Lock.book (opening parties start) self.old result self.new }
+        ensures takes { RigTakes L.Lock (opening parties start) self.old result self.new }
+        ensures own { Owns L.Lock (opening parties start) self.old result self.new }
     {
         self.lock.open(parties, start)?;
         // The lock has refused any count above 32.
@@ -56,10 +56,7 @@ impl<L: Lock> Rig<L> {
         ensures { result ≡ recorded party (view L.Lock.book self.now) }
     {
         if !self.has(party) {
-            return Record {
-                standing: Standing::Away,
-                told: 0,
-            };
+            return Record::default();
         }
         let standing = self.lock.standing(party);
         let told = if standing.is_waiting() {
@@ -72,8 +69,8 @@ impl<L: Lock> Rig<L> {
 
     /// Asks to read.
     pub fn request_read(&mut self, party: u8) -> Result<Letter, RigFault>
-        ensures takes { Takes L.Lock.TWO_STEP (locks (RequestRead party)) (view L.Lock.book self.old) result (view L.Lock.book self.new) }
-        ensures own { Owns L.Lock.moved L.Lock.began L.Lock.book (locks (RequestRead party)) self.old result self.new }
+        ensures takes { RigTakes L.Lock (locks (RequestRead party)) self.old result self.new }
+        ensures own { Owns L.Lock (locks (RequestRead party)) self.old result self.new }
     {
         self.must_be_there(party)?;
         let letter = self.lock.request_read(party)?;
@@ -83,8 +80,8 @@ impl<L: Lock> Rig<L> {
 
     /// Asks to write.
     pub fn request_write(&mut self, party: u8) -> Result<Letter, RigFault>
-        ensures takes { Takes L.Lock.TWO_STEP (locks (RequestWrite party)) (view L.Lock.book self.old) result (view L.Lock.book self.new) }
-        ensures own { Owns L.Lock.moved L.Lock.began L.Lock.book (locks (RequestWrite party)) self.old result self.new }
+        ensures takes { RigTakes L.Lock (locks (RequestWrite party)) self.old result self.new }
+        ensures own { Owns L.Lock (locks (RequestWrite party)) self.old result self.new }
     {
         self.must_be_there(party)?;
         let letter = self.lock.request_write(party)?;
@@ -94,8 +91,8 @@ impl<L: Lock> Rig<L> {
 
     /// Takes the party's next step, if it may be taken yet.
     pub fn advance(&mut self, party: u8) -> Result<Letter, RigFault>
-        ensures takes { Takes L.Lock.TWO_STEP (locks (Advance party)) (view L.Lock.book self.old) result (view L.Lock.book self.new) }
-        ensures own { Owns L.Lock.moved L.Lock.began L.Lock.book (locks (Advance party)) self.old result self.new }
+        ensures takes { RigTakes L.Lock (locks (Advance party)) self.old result self.new }
+        ensures own { Owns L.Lock (locks (Advance party)) self.old result self.new }
     {
         self.must_be_there(party)?;
         let letter = self.lock.advance(party)?;
@@ -107,8 +104,8 @@ impl<L: Lock> Rig<L> {
 
     /// Leaves from inside, unless a payout is open.
     pub fn leave(&mut self, party: u8) -> Result<Letter, RigFault>
-        ensures takes { Takes L.Lock.TWO_STEP (locks (Leave party)) (view L.Lock.book self.old) result (view L.Lock.book self.new) }
-        ensures own { Owns L.Lock.moved L.Lock.began L.Lock.book (locks (Leave party)) self.old result self.new }
+        ensures takes { RigTakes L.Lock (locks (Leave party)) self.old result self.new }
+        ensures own { Owns L.Lock (locks (Leave party)) self.old result self.new }
     {
         self.must_be_there(party)?;
         // A party that is not inside must be refused by the lock itself.
@@ -120,45 +117,45 @@ impl<L: Lock> Rig<L> {
 
     /// What a cell holds. The party must be inside.
     pub fn look(&self, party: u8, cell: u8) -> Result<u32, RigFault>
-        ensures { Takes L.Lock.TWO_STEP (look party cell) (view L.Lock.book self.now) result (view L.Lock.book self.now) }
+        ensures { RigTakes L.Lock (look party cell) self.now result self.now }
     {
-        self.must_be_inside(party)?;
+        self.must_stand(party, Standing::is_inside)?;
         Ok(self.till.look(cell)?)
     }
 
     /// Adds to a cell, and answers its new reading. The party must be inside writing.
     pub fn fill(&mut self, party: u8, cell: u8, amount: u32) -> Result<u32, RigFault>
-        ensures takes { Takes L.Lock.TWO_STEP (fill party cell amount) (view L.Lock.book self.old) result (view L.Lock.book self.new) }
-        ensures own { Owns L.Lock.moved L.Lock.began L.Lock.book (fill party cell amount) self.old result self.new }
+        ensures takes { RigTakes L.Lock (fill party cell amount) self.old result self.new }
+        ensures own { Owns L.Lock (fill party cell amount) self.old result self.new }
     {
-        self.must_be_writing(party)?;
+        self.must_stand(party, Standing::is_writing)?;
         Ok(self.till.fill(cell, amount)?)
     }
 
     /// Opens a payout of so many coins out of a cell. The party must be inside writing.
     pub fn begin(&mut self, party: u8, cell: u8, coins: u32) -> Result<(), RigFault>
-        ensures takes { Takes L.Lock.TWO_STEP (begin party cell coins) (view L.Lock.book self.old) result (view L.Lock.book self.new) }
-        ensures own { Owns L.Lock.moved L.Lock.began L.Lock.book (begin party cell coins) self.old result self.new }
+        ensures takes { RigTakes L.Lock (begin party cell coins) self.old result self.new }
+        ensures own { Owns L.Lock (begin party cell coins) self.old result self.new }
     {
-        self.must_be_writing(party)?;
+        self.must_stand(party, Standing::is_writing)?;
         Ok(self.till.begin(party, cell, coins)?)
     }
 
     /// Drops one coin of the open payout, and answers the coins left. The party must be inside writing.
     pub fn drop_coin(&mut self, party: u8) -> Result<u32, RigFault>
-        ensures takes { Takes L.Lock.TWO_STEP (drop party) (view L.Lock.book self.old) result (view L.Lock.book self.new) }
-        ensures own { Owns L.Lock.moved L.Lock.began L.Lock.book (drop party) self.old result self.new }
+        ensures takes { RigTakes L.Lock (drop party) self.old result self.new }
+        ensures own { Owns L.Lock (drop party) self.old result self.new }
     {
-        self.must_be_writing(party)?;
+        self.must_stand(party, Standing::is_writing)?;
         Ok(self.till.drop_coin()?)
     }
 
     /// Ends the open payout, and answers the coins dropped and the coins left. The party must be inside writing.
     pub fn settle(&mut self, party: u8) -> Result<(u32, u32), RigFault>
-        ensures takes { Takes L.Lock.TWO_STEP (settle party) (view L.Lock.book self.old) result (view L.Lock.book self.new) }
-        ensures own { Owns L.Lock.moved L.Lock.began L.Lock.book (settle party) self.old result self.new }
+        ensures takes { RigTakes L.Lock (settle party) self.old result self.new }
+        ensures own { Owns L.Lock (settle party) self.old result self.new }
     {
-        self.must_be_writing(party)?;
+        self.must_stand(party, Standing::is_writing)?;
         Ok(self.till.settle()?)
     }
 
@@ -177,21 +174,14 @@ impl<L: Lock> Rig<L> {
         Ok(())
     }
 
-    fn must_be_inside(&self, party: u8) -> Result<(), RigFault>
-        ensures { result ≡ (if nat_lt party self.now.parties then (if is_inside (standing_in (L.Lock.book self.now.lock) party) then Ok tt else Err (OfLock Unfit)) else Err NoParty) }
+    // The rig has the party, at a standing that fits.
+    fn must_stand<F: FnOnce(Standing) -> bool>(&self, party: u8, fits: F) -> Result<(), RigFault>
+        requires { F.IsAlwaysCallable fits }
+        ensures { (b : Bool) × F.post fits (standing_in (L.Lock.book self.now.lock) party) b × (result ≡ (if nat_lt party self.now.parties then (if b then Ok tt else Err (OfLock Unfit)) else Err NoParty)) }
     {
+        let fit = fits(self.lock.standing(party));
         self.must_be_there(party)?;
-        if !self.lock.standing(party).is_inside() {
-            return Err(LockFault::Unfit.into());
-        }
-        Ok(())
-    }
-
-    fn must_be_writing(&self, party: u8) -> Result<(), RigFault>
-        ensures { result ≡ (if nat_lt party self.now.parties then (if is_writing (standing_in (L.Lock.book self.now.lock) party) then Ok tt else Err (OfLock Unfit)) else Err NoParty) }
-    {
-        self.must_be_there(party)?;
-        if !self.lock.standing(party).is_writing() {
+        if !fit {
             return Err(LockFault::Unfit.into());
         }
         Ok(())

@@ -23,18 +23,15 @@ impl Told {
     pub fn of(&self, party: u8) -> u16
         ensures { result ≡ slice_index self.now.counts party }
     {
-        if party >= 32 {
-            return 0;
-        }
-        self.counts[party as usize]
+        self.counts.get(usize::from(party)).copied().unwrap_or(0)
     }
 
     /// A party's count begins anew at 0.
     pub fn restart(&mut self, party: u8)
         ensures { self.new.counts ≡ slice_set self.old.counts party 0 }
     {
-        let i = party as usize;
-        if i < 32 {
+        let i = usize::from(party);
+        if i < self.counts.len() {
             self.counts[i] = 0;
         }
     }
@@ -53,9 +50,8 @@ impl Told {
     fn note_writer<L: Lock>(&mut self, lock: &L)
         ensures { self.new.counts ≡ told_by_writer (L.Lock.book lock.now) self.old.counts }
     {
-        for party in 0..32 {
-            let i = party as usize;
-            self.counts[i] = next_count(lock.standing(party), self.counts[i]);
+        for (party, count) in self.counts.iter_mut().enumerate() {
+            *count = next_count(lock.standing(party as u8), *count);
         }
     }
 }
