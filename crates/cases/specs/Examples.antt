@@ -13,8 +13,8 @@ use Rattle.pft.specs.Model.{State, opened, answer, after}
 use Rattle.schedule.specs.Schedule.{calls_of}
 use Rattle.cases.specs.Runs.{mark, letters, ends}
 
--- Words 0000 1080 2080 2080 0100 2000 2080 3000 2080 2100 3080 2100 2080 3100: a reader is inside when a writer posts, a second
--- reader is held off until that writer leaves.
+-- Words 0000 1080 2080 2080 0100 2000 2080 3000 2080 2100 3080 2100 2080 3100: a reader has asked when a writer posts, and a
+-- second reader is held off until that writer leaves.
 abbrev pub around_a_writer : List LockCall
 around_a_writer =
     RequestRead 0 ∷ RequestWrite 1 ∷ Advance 1 ∷ Advance 1 ∷ RequestRead 2 ∷ Advance 0 ∷ Advance 1 ∷ Leave 0 ∷ Advance 1 ∷ Advance 2 ∷ Leave 1 ∷ Advance 2 ∷ Advance 1 ∷ Leave 2 ∷ []

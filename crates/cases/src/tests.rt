@@ -11,19 +11,19 @@ use std::alloc::Global;
 use std::process::Abort;
 use std::test::Fail;
 
-// The number of the refusal of an opening, 0 where it is accepted.
-fn refusal<L: Lock>(lock: &mut L, parties: u32) -> u8 {
-    match lock.open(parties, 0) {
-        Ok(()) => 0,
+// The number of a refusal, 0 where the call is accepted.
+fn number<T: Copy, F: Fault>(answer: Result<T, F>) -> u8 {
+    match answer {
+        Ok(_) => 0,
         Err(fault) => fault.number(),
     }
 }
 
 #[test]
 fn a_lock_opens_for_1_to_32_parties(rt: HostRuntime) {
-    for (parties, number) in [(0, 1), (1, 0), (32, 0), (33, 1)] {
-        assert_eq!(rt; refusal(&mut Pft::unopened(), parties), number);
-        assert_eq!(rt; refusal(&mut ListLock::unopened(), parties), number);
+    for (parties, expected) in [(0, 1), (1, 0), (32, 0), (33, 1)] {
+        assert_eq!(rt; number(Pft::unopened().open(parties, 0)), expected);
+        assert_eq!(rt; number(ListLock::unopened().open(parties, 0)), expected);
     }
 }
 

@@ -1,9 +1,9 @@
+use super::number;
 use crate::both_locks::enter;
 use dispatch::dispatch::dispatch;
-use dispatch::reply::Reply;
 use list_lock::lock::ListLock;
 use pft::lock::Pft;
-use phase::faults::{Fault, LockFault};
+use phase::faults::LockFault;
 use phase::kinds::Standing;
 use phase::lock::Lock;
 use rig::rig::Rig;
@@ -17,14 +17,6 @@ const ABSENT: Record = Record {
     standing: Standing::Away,
     told: 0,
 };
-
-// The number of a refusal, 0 where the call is accepted.
-fn number(answer: Result<Reply, RigFault>) -> u8 {
-    match answer {
-        Ok(_) => 0,
-        Err(fault) => fault.number(),
-    }
-}
 
 // Makes the calls one after another, each of which is refused with the number beside it, or accepted at 0.
 fn answers<L: Lock>(rt: &impl Abort, rig: &mut Rig<L>, calls: &[(Call, u8)]) {
