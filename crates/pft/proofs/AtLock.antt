@@ -45,15 +45,15 @@ past_state l c i e h = sym (cond-false _ _ (state l) (le-ltb (caller c) l.count 
 here_at : (l : Pft) (i : ℕ) → i < l.count → Here (four l.words) (ps l) i
 here_at l i h = record {
   sound = opened l.sound;
-  kept = (l.words.fits, (l.words.whole, l.words.flags));
+  kept = record { fits = l.words.fits; whole = l.words.whole; flags = l.words.flags };
   here = rw length-take (omega (arith, l.within.0, l.within.1));
 }
 
 -- the lock after an accepted step
 pub record Taken (l : Pft) (c : LockCall) (i : ℕ) (h : Change) : Type 0 where
-  pub kept : Kept h.rin h.rout h.win h.wout
-  pub sound : Sound h.rin h.rout h.win h.wout (take l.count (set l.parties i h.party))
-  pub steps : Steps true c (book l) (Ok h.letter) (seen h.rin h.wout (take l.count (set l.parties i h.party)))
+  pub kept : Kept h.words
+  pub sound : Sound h.words.rin h.words.rout h.words.win h.words.wout (take l.count (set l.parties i h.party))
+  pub steps : Steps true c (book l) (Ok h.letter) (seen h.words.rin h.words.wout (take l.count (set l.parties i h.party)))
   pub words : applied i (state l) (Ok h) ≡ after c (state l)
 
 -- and after a refused one

@@ -14,12 +14,13 @@ use Rattle.phase.specs.declared.kinds.Letter.{Letter}
 use Rattle.phase.specs.declared.kinds.Letter.TheVariants as L
 use Rattle.phase.specs.declared.kinds.LockCall.{LockCall}
 use Rattle.phase.specs.declared.kinds.LockCall.TheVariants.{RequestRead, RequestWrite, Advance, Leave}
-use Rattle.pft_steps.specs.Steps.{Four, held, letter_met, moved, nobody, unchanged, ask_at, join_at, advance_at, leave_at, next}
+use Rattle.pft_steps.specs.Steps.{held, letter_met, moved, nobody, unchanged, ask_at, join_at, advance_at, leave_at, next}
 use Rattle.pft.specs.Sound.{Sound, seen}
 use Rattle.pft_steps.specs.declared.party.Stage.{Stage}
 use Rattle.pft_steps.specs.declared.party.Stage.TheVariants as G
 use Rattle.pft_steps.specs.declared.party.Party.{Party}
 use Rattle.pft_steps.specs.declared.steps.Change.{Change}
+use Rattle.pft_steps.specs.declared.words.Four.{Four}
 use Rattle.pft.proofs.Given.{Given, mine, asks_at, joins_at, advances_at, leaves_at}
 use Rattle.pft.proofs.Masks.{and_high}
 use Rattle.pft.proofs.Ask as ask
@@ -32,22 +33,22 @@ use Rattle.pft.proofs.Done as done
 use Rattle.pft.proofs.Out as out
 
 -- what four words are by themselves
-abbrev pub Kept : ℕ → ℕ → ℕ → ℕ → Type 0
-Kept rin rout win wout =
-    ((rin < 2 ^ 32) × (rout < 2 ^ 32) × (win < 2 ^ 32) × (wout < 2 ^ 32))
-    × ((rout % 256 ≡ 0) × ((rin % 256 < 4) × (rin % 256 ≡ 1 → ⊥)))
+pub record Kept (w : Four) : Type 0 where
+  pub fits : (w.rin < 2 ^ 32) × (w.rout < 2 ^ 32) × (w.win < 2 ^ 32) × (w.wout < 2 ^ 32)
+  pub whole : w.rout % 256 ≡ 0
+  pub flags : (w.rin % 256 < 4) × (w.rin % 256 ≡ 1 → ⊥)
 
 -- what is known where a party calls
 pub record Here (w : Four) (ps : List Party) (i : ℕ) : Type 0 where
   pub sound : Sound w.rin w.rout w.win w.wout ps
-  pub kept : Kept w.rin w.rout w.win w.wout
+  pub kept : Kept w
   pub here : i < length ps
 
 -- what an accepted step owes
 pub record Accepted (w : Four) (ps : List Party) (i : ℕ) (c : LockCall) (h : Change) : Type 0 where
-  pub kept : Kept h.rin h.rout h.win h.wout
-  pub sound : Sound h.rin h.rout h.win h.wout (set ps i h.party)
-  pub moves : step true c (seen w.rin w.wout ps) ≡ says h.letter (seen h.rin h.wout (set ps i h.party))
+  pub kept : Kept h.words
+  pub sound : Sound h.words.rin h.words.rout h.words.win h.words.wout (set ps i h.party)
+  pub moves : step true c (seen w.rin w.wout ps) ≡ says h.letter (seen h.words.rin h.words.wout (set ps i h.party))
 
 -- what a step owes
 abbrev pub Good : Four → List Party → ℕ → LockCall → Result Change LockFault → Type 0
@@ -58,13 +59,13 @@ module _ (w : Four) (ps : List Party) (i : ℕ) (at : Here w ps i) where
   pub given : (st : Stage) → (get_or ps i nobody).stage ≡ st → Given w.rin w.rout w.win w.wout ps i nobody st
   given st e = record {
     sound = at.sound;
-    whole = at.kept.1.0;
-    low = at.kept.1.1.0;
-    not_one = at.kept.1.1.1;
-    rin_fits = at.kept.0.0;
-    rout_fits = at.kept.0.1;
-    win_fits = at.kept.0.2;
-    wout_fits = at.kept.0.3;
+    whole = at.kept.whole;
+    low = at.kept.flags.0;
+    not_one = at.kept.flags.1;
+    rin_fits = at.kept.fits.0;
+    rout_fits = at.kept.fits.1;
+    win_fits = at.kept.fits.2;
+    wout_fits = at.kept.fits.3;
     here = at.here;
     stage = e;
   }
@@ -77,21 +78,21 @@ module _ (w : Four) (ps : List Party) (i : ℕ) (at : Here w ps i) where
     moves = rw (set-get_or ps i nobody) e;
   }
 
-  asked_as : (get_or ps i nobody).stage ≡ G.Away → (l : Letter) → step true (RequestRead i) (seen w.rin w.wout ps) ≡ says l (seen ((w.rin + 256) % 2 ^ 32) w.wout (set ps i (ask.asked (w.rin % 4)))) → Accepted w ps i (RequestRead i) (record { letter = l; party = ask.asked (w.rin % 4); rin = (w.rin + 256) % 2 ^ 32; rout = w.rout; win = w.win; wout = w.wout })
+  asked_as : (get_or ps i nobody).stage ≡ G.Away → (l : Letter) → step true (RequestRead i) (seen w.rin w.wout ps) ≡ says l (seen ((w.rin + 256) % 2 ^ 32) w.wout (set ps i (ask.asked (w.rin % 4)))) → Accepted w ps i (RequestRead i) (record { letter = l; party = ask.asked (w.rin % 4); words = record { rin = (w.rin + 256) % 2 ^ 32; rout = w.rout; win = w.win; wout = w.wout } })
   asked_as e l m =
       let k = at.kept in
       record {
-        kept = ((omega arith, k.0.1, k.0.2, k.0.3), (k.1.0, (omega (arith, k.1.1.0), λ z. k.1.1.1 (omega (arith, k.0.0, z)))));
+        kept = record { fits = (omega arith, k.fits.1, k.fits.2, k.fits.3); whole = k.whole; flags = (omega (arith, k.flags.0), λ z. k.flags.1 (omega (arith, k.fits.0, z))) };
         sound = ask.read_sound (given G.Away e);
         moves = m;
       }
 
   good_ask : (st : Stage) → (get_or ps i nobody).stage ≡ st → Good w ps i (RequestRead i) (ask_at st w)
   good_ask G.Away e =
-      let P : ℕ → Type 0 = λ n. Accepted w ps i (RequestRead i) (record { letter = letter_met n; party = ask.asked n; rin = (w.rin + 256) % 2 ^ 32; rout = w.rout; win = w.win; wout = w.wout }) in
+      let P : ℕ → Type 0 = λ n. Accepted w ps i (RequestRead i) (record { letter = letter_met n; party = ask.asked n; words = record { rin = (w.rin + 256) % 2 ^ 32; rout = w.rout; win = w.win; wout = w.wout } }) in
       subst⁻¹ P (and_mask w.rin 2)
       (cond_both (eqb (w.rin % 4) 0) L.Cleared L.Held
-      (λ (l : Letter). Accepted w ps i (RequestRead i) (record { letter = l; party = ask.asked (w.rin % 4); rin = (w.rin + 256) % 2 ^ 32; rout = w.rout; win = w.win; wout = w.wout }))
+      (λ (l : Letter). Accepted w ps i (RequestRead i) (record { letter = l; party = ask.asked (w.rin % 4); words = record { rin = (w.rin + 256) % 2 ^ 32; rout = w.rout; win = w.win; wout = w.wout } }))
       (λ t. asked_as e L.Cleared (ask.read_cleared (given G.Away e) (eqb-true _ _ t)))
       (λ t. asked_as e L.Held (ask.read_held (given G.Away e) (eqb-false _ _ t))))
   good_ask G.Waiting e = asks_at (given G.Waiting e) ∙ cond_both (held (w.rin % 4) (get_or ps i nobody).saved) S.HeldOff S.Cleared (λ (x : Standing). ◌≡◌ {A = Out} (read_as x i (seen w.rin w.wout ps)) (refuses (seen w.rin w.wout ps))) (λ _. refl) (λ _. refl)
@@ -106,7 +107,7 @@ module _ (w : Four) (ps : List Party) (i : ℕ) (at : Here w ps i) where
   good_join G.Away e =
       let k = at.kept in
       record {
-        kept = ((k.0.0, k.0.1, omega arith, k.0.3), k.1);
+        kept = record { fits = (k.fits.0, k.fits.1, omega arith, k.fits.3); whole = k.whole; flags = k.flags };
         sound = join.join_sound (given G.Away e);
         moves = join.join_moves (given G.Away e);
       }
@@ -142,9 +143,9 @@ module _ (w : Four) (ps : List Party) (i : ℕ) (at : Here w ps i) where
       let g = given G.Called e in
       let own = rw g.stage at (mine g) in
       let k = at.kept in
-      let P : ℕ → Type 0 = λ n. Accepted w ps i (Advance i) (record { letter = L.Posted; party = post.posted w.rin (get_or ps i nobody); rin = n; rout = w.rout; win = w.win; wout = w.wout }) in
+      let P : ℕ → Type 0 = λ n. Accepted w ps i (Advance i) (record { letter = L.Posted; party = post.posted w.rin (get_or ps i nobody); words = record { rin = n; rout = w.rout; win = w.win; wout = w.wout } }) in
       subst⁻¹ P (bits_added e) (record {
-        kept = ((omega arith, k.0.1, k.0.2, k.0.3), (k.1.0, (omega (arith, own.1, k.0.0), λ z. omega (arith, own.1, k.0.0, z))));
+        kept = record { fits = (omega arith, k.fits.1, k.fits.2, k.fits.3); whole = k.whole; flags = (omega (arith, own.1, k.fits.0), λ z. omega (arith, own.1, k.fits.0, z)) };
         sound = post.post_sound g;
         moves = post.post_moves g;
       })
@@ -156,7 +157,7 @@ module _ (w : Four) (ps : List Party) (i : ℕ) (at : Here w ps i) where
   good_advance G.GoingOut e =
       let k = at.kept in
       record {
-        kept = ((k.0.0, k.0.1, k.0.2, omega arith), k.1);
+        kept = record { fits = (k.fits.0, k.fits.1, k.fits.2, omega arith); whole = k.whole; flags = k.flags };
         sound = out.out_sound (given G.GoingOut e);
         moves = out.out_moves (given G.GoingOut e);
       }
@@ -167,7 +168,7 @@ module _ (w : Four) (ps : List Party) (i : ℕ) (at : Here w ps i) where
   good_leave G.Reading e =
       let k = at.kept in
       record {
-        kept = ((k.0.0, omega arith, k.0.2, k.0.3), (omega (arith, k.1.0), k.1.1));
+        kept = record { fits = (k.fits.0, omega arith, k.fits.2, k.fits.3); whole = omega (arith, k.whole); flags = k.flags };
         sound = done.done_sound (given G.Reading e);
         moves = done.done_moves (given G.Reading e);
       }
@@ -176,9 +177,9 @@ module _ (w : Four) (ps : List Party) (i : ℕ) (at : Here w ps i) where
   good_leave G.Posted e = leaves_at (given G.Posted e)
   good_leave G.Writing e =
       let k = at.kept in
-      let P : ℕ → Type 0 = λ n. Accepted w ps i (Leave i) (record { letter = L.Out; party = moved G.GoingOut (get_or ps i nobody); rin = n; rout = w.rout; win = w.win; wout = w.wout }) in
-      subst⁻¹ P (and_high w.rin 24 8 k.0.0) (record {
-        kept = ((omega (arith, k.0.0), k.0.1, k.0.2, k.0.3), (k.1.0, (omega arith, λ z. omega arith)));
+      let P : ℕ → Type 0 = λ n. Accepted w ps i (Leave i) (record { letter = L.Out; party = moved G.GoingOut (get_or ps i nobody); words = record { rin = n; rout = w.rout; win = w.win; wout = w.wout } }) in
+      subst⁻¹ P (and_high w.rin 24 8 k.fits.0) (record {
+        kept = record { fits = (omega (arith, k.fits.0), k.fits.1, k.fits.2, k.fits.3); whole = k.whole; flags = (omega arith, λ z. omega arith) };
         sound = clear.leave_sound (given G.Writing e);
         moves = clear.leave_moves (given G.Writing e);
       })

@@ -4,10 +4,11 @@ use Rattle.phase.specs.Book.{Book, Answer, step, right_count}
 use Rattle.phase.specs.Calls.{caller}
 use Rattle.phase.specs.declared.faults.LockFault.{LockFault}
 use Rattle.phase.specs.declared.kinds.LockCall.{LockCall}
-use Rattle.pft_steps.specs.Steps.{Four, four, nobody, next}
+use Rattle.pft_steps.specs.Steps.{four, nobody, next}
 use Rattle.pft.specs.Sound.{seen}
 use Rattle.pft_steps.specs.declared.party.Party.{Party}
 use Rattle.pft_steps.specs.declared.steps.Change.{Change}
+use Rattle.pft_steps.specs.declared.words.Four.{Four}
 use Rattle.pft.specs.declared.lock.Pft.{Pft}
 
 -- all that the lock holds: the number of parties, the four words, and what each party has of its own
@@ -40,7 +41,7 @@ answer c s = (step true c (book_of s)).answer
 abbrev pub applied : ℕ → State → Result Change LockFault → State
 applied i s (Ok c) = record {
   count = s.count;
-  words = record { rin = c.rin; rout = c.rout; win = c.win; wout = c.wout };
+  words = c.words;
   parties = slice_set s.parties i c.party;
 }
 applied i s (Err f) = s

@@ -1,10 +1,12 @@
 ghost use Rattle.std.specs.Prelude.{◌≡◌, ◌≤◌, true, nat_lt};
 ghost use Rattle.phase.specs.Book.{Steps, new};
+ghost use Rattle.pft_steps.specs.Steps.{four};
 ghost use Rattle.pft.specs.Model.{state, book as pft_book, opened, after, after_opening};
 
 use crate::lock::Pft;
-use pft_steps::steps::{NOBODY, before, change_by, readers_at, standing_of};
-use pft_steps::words::Words;
+use pft_steps::party::Party;
+use pft_steps::steps::{Turn, readers_at};
+use pft_steps::words::{Four, Words};
 use phase::faults::{LockFault, OpenFault};
 use phase::kinds::{Letter, LockCall, Standing};
 use phase::lock::{Lock, right_count};
@@ -39,7 +41,7 @@ impl Lock for Pft {
         if !known {
             return Standing::Away;
         }
-        standing_of(self.parties[party as usize], self.words)
+        self.turn(self.parties[party as usize]).standing()
     }
 
     fn ahead(&self, party: u8) -> u8 {
@@ -47,8 +49,7 @@ impl Lock for Pft {
         if !known {
             return 0;
         }
-        let p = self.parties[party as usize];
-        before(p.stage, p.ticket, self.words.wout) as u8
+        self.parties[party as usize].before(self.words.wout) as u8
     }
 
     fn request_read(&mut self, party: u8) -> Result<Letter, LockFault> {
@@ -75,6 +76,15 @@ impl Pft {
         (party as usize) < self.count
     }
 
+    fn turn(&self, party: Party) -> Turn
+        ensures { result ≡ record { party = party; words = four self.now.words } }
+    {
+        Turn {
+            party,
+            words: Four::from(self.words),
+        }
+    }
+
     // A lock of so many parties, all of them away.
     fn with_all_away(parties: u32, start: u32) -> Pft
         requires { parties ≤ 32 }
@@ -82,6 +92,7 @@ impl Pft {
         ensures shows { pft_book result ≡ new parties }
     {
         let readers = readers_at(start);
+        let away = Party::default();
         Pft {
             words: Words {
                 rin: readers,
@@ -90,7 +101,7 @@ impl Pft {
                 wout: start,
             },
             count: parties as usize,
-            parties: [NOBODY; 32],
+            parties: [away; 32],
         }
     }
 
@@ -105,12 +116,12 @@ impl Pft {
             return Err(LockFault::Unfit);
         }
         let i = party as usize;
-        let change = change_by(call, self.parties[i], self.words)?;
+        let change = self.turn(self.parties[i]).make(call)?;
         self.words = Words {
-            rin: change.rin,
-            rout: change.rout,
-            win: change.win,
-            wout: change.wout,
+            rin: change.words.rin,
+            rout: change.words.rout,
+            win: change.words.win,
+            wout: change.words.wout,
         };
         self.parties[i] = change.party;
         Ok(change.letter)

@@ -14,15 +14,9 @@ use Rattle.pft_steps.specs.declared.party.Stage.TheVariants as G
 use Rattle.pft_steps.specs.declared.party.Party.{Party}
 use Rattle.pft_steps.specs.declared.steps.Change.{Change}
 use Rattle.pft_steps.specs.declared.words.Words.{Words}
+use Rattle.pft_steps.specs.declared.words.Four.{Four}
 
--- the four words as plain numbers
-pub record Four : Type 0 where
-  pub rin : ℕ
-  pub rout : ℕ
-  pub win : ℕ
-  pub wout : ℕ
-
--- the words of the lock as such
+-- the words of the lock as plain numbers
 abbrev pub four : Words → Four
 four w = record { rin = w.rin; rout = w.rout; win = w.win; wout = w.wout }
 
@@ -36,7 +30,7 @@ moved g p = record { stage = g; saved = p.saved; ticket = p.ticket }
 
 -- the words stay
 abbrev pub unchanged : Letter → Party → Four → Change
-unchanged l p w = record { letter = l; party = p; rin = w.rin; rout = w.rout; win = w.win; wout = w.wout }
+unchanged l p w = record { letter = l; party = p; words = w }
 
 -- a waiting reader that saved a writer's bits is held off as long as rin has the same bits
 abbrev pub held : ℕ → ℕ → Bool
@@ -62,10 +56,7 @@ abbrev pub ask_at : Stage → Four → Result Change LockFault
 ask_at G.Away w = Ok (record {
   letter = letter_met (bit_and w.rin 3);
   party = record { stage = G.Waiting; saved = bit_and w.rin 3; ticket = 0 };
-  rin = sum 32 w.rin 256;
-  rout = w.rout;
-  win = w.win;
-  wout = w.wout;
+  words = record { rin = sum 32 w.rin 256; rout = w.rout; win = w.win; wout = w.wout };
 })
 ask_at G.Waiting w = Err Unfit
 ask_at G.Reading w = Err Unfit
@@ -84,10 +75,7 @@ abbrev pub join_at : Stage → Four → Result Change LockFault
 join_at G.Away w = Ok (record {
   letter = L.Queued;
   party = record { stage = G.InLine; saved = 0; ticket = w.win };
-  rin = w.rin;
-  rout = w.rout;
-  win = sum 32 w.win 1;
-  wout = w.wout;
+  words = record { rin = w.rin; rout = w.rout; win = sum 32 w.win 1; wout = w.wout };
 })
 join_at G.Waiting w = Err Unfit
 join_at G.Reading w = Err Unfit
@@ -106,10 +94,7 @@ abbrev pub posted : Party → Four → Change
 posted p w = record {
   letter = L.Posted;
   party = record { stage = G.Posted; saved = w.rin; ticket = p.ticket };
-  rin = sum 32 w.rin (2 + bit_and p.ticket 1);
-  rout = w.rout;
-  win = w.win;
-  wout = w.wout;
+  words = record { rin = sum 32 w.rin (2 + bit_and p.ticket 1); rout = w.rout; win = w.win; wout = w.wout };
 }
 
 -- the mask of all bits but the low byte
@@ -137,10 +122,7 @@ advance_at G.Writing p w = Err Unfit
 advance_at G.GoingOut p w = Ok (record {
   letter = L.Gone;
   party = nobody;
-  rin = w.rin;
-  rout = w.rout;
-  win = w.win;
-  wout = wout_out true w.wout;
+  words = record { rin = w.rin; rout = w.rout; win = w.win; wout = wout_out true w.wout };
 })
 
 -- a party's advance
@@ -154,10 +136,7 @@ leave_at G.Waiting p w = Err Unfit
 leave_at G.Reading p w = Ok (record {
   letter = L.Away;
   party = nobody;
-  rin = w.rin;
-  rout = sum 32 w.rout 256;
-  win = w.win;
-  wout = w.wout;
+  words = record { rin = w.rin; rout = sum 32 w.rout 256; win = w.win; wout = w.wout };
 })
 leave_at G.InLine p w = Err Unfit
 leave_at G.Called p w = Err Unfit
@@ -165,10 +144,7 @@ leave_at G.Posted p w = Err Unfit
 leave_at G.Writing p w = Ok (record {
   letter = L.Out;
   party = moved G.GoingOut p;
-  rin = rin_out false w.rin;
-  rout = w.rout;
-  win = w.win;
-  wout = w.wout;
+  words = record { rin = rin_out false w.rin; rout = w.rout; win = w.win; wout = w.wout };
 })
 leave_at G.GoingOut p w = Err Unfit
 

@@ -1,9 +1,9 @@
-ghost use Rattle.std.specs.Prelude.{◌≡◌, ◌*◌, ◌%◌, ◌^◌, ◌<◌, bit_and};
+ghost use Rattle.std.specs.Prelude.{◌≡◌, ◌*◌, ◌%◌, ◌^◌, bit_and};
 ghost use Rattle.phase.specs.declared.kinds.Letter.TheVariants.{Entered};
-ghost use Rattle.pft_steps.specs.Steps.{four, unchanged, moved, held, standing_at, letter_met, before_at, asked, joined, posted, rin_out, wout_out, advanced, left, next};
+ghost use Rattle.pft_steps.specs.Steps.{nobody, unchanged, moved, held, standing_at, letter_met, asked, joined, posted, advanced, left, next};
 
 use crate::party::{Party, Stage};
-use crate::words::{LOW_BYTE, PHID, PRES, RINC, WBITS, Words};
+use crate::words::{Four, LOW_BYTE, PHID, PRES, RINC, WBITS};
 use phase::faults::LockFault;
 use phase::kinds::{Letter, LockCall, Standing};
 
@@ -12,62 +12,222 @@ use phase::kinds::{Letter, LockCall, Standing};
 pub struct Change {
     pub letter: Letter,
     pub party: Party,
-    pub rin: u32,
-    pub rout: u32,
-    pub win: u32,
-    pub wout: u32,
+    pub words: Four,
 }
 
-/// A party that is away.
-pub const NOBODY: Party = Party {
-    stage: Stage::Away,
-    saved: 0,
-    ticket: 0,
-};
-
-/// What a call makes of its party and of the words.
-pub fn change_by(call: LockCall, party: Party, words: Words) -> Result<Change, LockFault>
-    ensures { result ≡ next call party (four words) }
-{
-    match call {
-        LockCall::RequestRead(_) => ask(party, words),
-        LockCall::RequestWrite(_) => join(party, words),
-        LockCall::Advance(_) => advance(party, words),
-        LockCall::Leave(_) => leave(party, words),
-    }
+/// A party at the four words.
+#[derive(Clone, Copy)]
+pub struct Turn {
+    pub party: Party,
+    pub words: Four,
 }
 
-/// The standing that a party shows.
-pub fn standing_of(party: Party, words: Words) -> Standing
-    ensures { result ≡ standing_at (bit_and words.rin 3) party.stage party.saved }
-{
-    match party.stage {
-        Stage::Away => Standing::Away,
-        Stage::Waiting => {
-            if held_off(party.saved, words.rin & WBITS) {
-                Standing::HeldOff
-            } else {
-                Standing::Cleared
-            }
+impl Turn {
+    /// What a call makes of the party and of the words.
+    pub fn make(self, call: LockCall) -> Result<Change, LockFault>
+        ensures { result ≡ next call self.party self.words }
+    {
+        match call {
+            LockCall::RequestRead(_) => self.ask(),
+            LockCall::RequestWrite(_) => self.join(),
+            LockCall::Advance(_) => self.advance(),
+            LockCall::Leave(_) => self.leave(),
         }
-        Stage::Reading => Standing::Reading,
-        Stage::InLine => Standing::InLine,
-        Stage::Called => Standing::Called,
-        Stage::Posted => Standing::Posted,
-        Stage::Writing => Standing::Writing,
-        Stage::GoingOut => Standing::GoingOut,
     }
-}
 
-/// The number of writers that are before a party in the line, by its stage and its ticket.
-pub fn before(stage: Stage, ticket: u32, wout: u32) -> u32
-    ensures answer { result ≡ before_at stage ticket wout }
-    // for a caller that passes an element of an array: it is not told by itself that the element fits
-    ensures fits { ticket < 2 ^ 32 }
-{
-    match stage {
-        Stage::Away | Stage::Waiting | Stage::Reading => 0,
-        _ => ticket.wrapping_sub(wout),
+    /// The standing that the party shows.
+    pub fn standing(self) -> Standing
+        ensures { result ≡ standing_at (bit_and self.words.rin 3) self.party.stage self.party.saved }
+    {
+        match self.party.stage {
+            Stage::Away => Standing::Away,
+            Stage::Waiting => {
+                if self.held_off() {
+                    Standing::HeldOff
+                } else {
+                    Standing::Cleared
+                }
+            }
+            Stage::Reading => Standing::Reading,
+            Stage::InLine => Standing::InLine,
+            Stage::Called => Standing::Called,
+            Stage::Posted => Standing::Posted,
+            Stage::Writing => Standing::Writing,
+            Stage::GoingOut => Standing::GoingOut,
+        }
+    }
+
+    // A reader asks: it saves the writer's bits, and counts itself in.
+    fn ask(self) -> Result<Change, LockFault>
+        ensures { result ≡ asked self.party self.words }
+    {
+        match self.party.stage {
+            Stage::Away => {
+                let saved = self.words.rin & WBITS;
+                Ok(Change {
+                    letter: letter_met(saved),
+                    party: Party {
+                        stage: Stage::Waiting,
+                        saved,
+                        ticket: 0,
+                    },
+                    words: Four {
+                        rin: self.words.rin.wrapping_add(RINC),
+                        ..self.words
+                    },
+                })
+            }
+            _ => Err(LockFault::Unfit),
+        }
+    }
+
+    // A writer asks: it draws a ticket.
+    fn join(self) -> Result<Change, LockFault>
+        ensures { result ≡ joined self.party self.words }
+    {
+        match self.party.stage {
+            Stage::Away => {
+                Ok(Change {
+                    letter: Letter::Queued,
+                    party: Party {
+                        stage: Stage::InLine,
+                        saved: 0,
+                        ticket: self.words.win,
+                    },
+                    words: Four {
+                        win: self.words.win.wrapping_add(1),
+                        ..self.words
+                    },
+                })
+            }
+            _ => Err(LockFault::Unfit),
+        }
+    }
+
+    fn advance(self) -> Result<Change, LockFault>
+        ensures { result ≡ advanced self.party self.words }
+    {
+        match self.party.stage {
+            Stage::Waiting => {
+                if self.held_off() {
+                    Ok(self.stay(Letter::Waits))
+                } else {
+                    Ok(self.enter(Stage::Reading))
+                }
+            }
+            Stage::InLine => {
+                if self.party.ticket == self.words.wout {
+                    Ok(self.go_to(Stage::Called, Letter::Called))
+                } else {
+                    Ok(self.stay(Letter::Waits))
+                }
+            }
+            Stage::Called => Ok(self.post()),
+            Stage::Posted => {
+                if self.party.saved == self.words.rout {
+                    Ok(self.enter(Stage::Writing))
+                } else {
+                    Ok(self.stay(Letter::Waits))
+                }
+            }
+            Stage::GoingOut => {
+                Ok(Change {
+                    letter: Letter::Gone,
+                    party: Party::default(),
+                    words: Four {
+                        wout: self.words.wout.wrapping_add(1),
+                        ..self.words
+                    },
+                })
+            }
+            Stage::Away | Stage::Reading | Stage::Writing => Err(LockFault::Unfit),
+        }
+    }
+
+    // A called writer posts: from here on readers are held off, and those that asked before are counted in what it saves.
+    fn post(self) -> Change
+        ensures { result ≡ posted self.party self.words }
+    {
+        let rin = self
+            .words
+            .rin
+            .wrapping_add(PRES + (self.party.ticket & PHID));
+        Change {
+            letter: Letter::Posted,
+            party: Party {
+                stage: Stage::Posted,
+                saved: self.words.rin,
+                ..self.party
+            },
+            words: Four { rin, ..self.words },
+        }
+    }
+
+    // A writer that leaves clears its bits of rin, and raises wout only by its last advance. Were wout raised first, the
+    // next writer could post before rin is cleared, and its bits would be wiped.
+    fn leave(self) -> Result<Change, LockFault>
+        ensures { result ≡ left self.party self.words }
+    {
+        match self.party.stage {
+            Stage::Reading => {
+                Ok(Change {
+                    letter: Letter::Away,
+                    party: Party::default(),
+                    words: Four {
+                        rout: self.words.rout.wrapping_add(RINC),
+                        ..self.words
+                    },
+                })
+            }
+            Stage::Writing => {
+                Ok(Change {
+                    letter: Letter::Out,
+                    party: self.party.at(Stage::GoingOut),
+                    words: Four {
+                        rin: self.words.rin & !LOW_BYTE,
+                        ..self.words
+                    },
+                })
+            }
+            _ => Err(LockFault::Unfit),
+        }
+    }
+
+    // A reader that met a writer's bits waits as long as rin has the same ones: other bits say that this
+    // writer has gone, even if the next one has posted already.
+    fn held_off(self) -> bool
+        ensures { result ≡ held (bit_and self.words.rin 3) self.party.saved }
+    {
+        self.party.saved != 0 && self.party.saved == self.words.rin & WBITS
+    }
+
+    // The party is inside from now on.
+    fn enter(self, stage: Stage) -> Change
+        ensures { result ≡ unchanged Entered (moved stage self.party) self.words }
+    {
+        self.go_to(stage, Letter::Entered)
+    }
+
+    // The party is at another stage, and the words stay.
+    fn go_to(self, stage: Stage, letter: Letter) -> Change
+        ensures { result ≡ unchanged letter (moved stage self.party) self.words }
+    {
+        Change {
+            letter,
+            party: self.party.at(stage),
+            words: self.words,
+        }
+    }
+
+    // The party and the words stay.
+    fn stay(self, letter: Letter) -> Change
+        ensures { result ≡ unchanged letter self.party self.words }
+    {
+        Change {
+            letter,
+            party: self.party,
+            words: self.words,
+        }
     }
 }
 
@@ -78,35 +238,6 @@ pub fn readers_at(start: u32) -> u32
     start.wrapping_mul(RINC)
 }
 
-// The party changes and the words stay.
-fn words_stay(letter: Letter, party: Party, words: Words) -> Change
-    ensures { result ≡ unchanged letter party (four words) }
-{
-    Change {
-        letter,
-        party,
-        rin: words.rin,
-        rout: words.rout,
-        win: words.win,
-        wout: words.wout,
-    }
-}
-
-// The party is inside from now on.
-fn enter(party: Party, stage: Stage, words: Words) -> Change
-    ensures { result ≡ unchanged Entered (moved stage party) (four words) }
-{
-    words_stay(Letter::Entered, party.at(stage), words)
-}
-
-// A reader that met a writer's bits waits as long as rin has the same ones: other bits say that this
-// writer has gone, even if the next one has posted already.
-fn held_off(saved: u32, bits: u32) -> bool
-    ensures { result ≡ held bits saved }
-{
-    saved != 0 && saved == bits
-}
-
 fn letter_met(saved: u32) -> Letter
     ensures { result ≡ letter_met saved }
 {
@@ -114,134 +245,5 @@ fn letter_met(saved: u32) -> Letter
         Letter::Cleared
     } else {
         Letter::Held
-    }
-}
-
-// A reader asks: it saves the writer's bits, and counts itself in.
-fn ask(party: Party, words: Words) -> Result<Change, LockFault>
-    ensures { result ≡ asked party (four words) }
-{
-    match party.stage {
-        Stage::Away => {
-            let saved = words.rin & WBITS;
-            let reader = Party {
-                stage: Stage::Waiting,
-                saved,
-                ticket: 0,
-            };
-            Ok(Change {
-                rin: words.rin.wrapping_add(RINC),
-                ..words_stay(letter_met(saved), reader, words)
-            })
-        }
-        _ => Err(LockFault::Unfit),
-    }
-}
-
-// A writer asks: it draws a ticket.
-fn join(party: Party, words: Words) -> Result<Change, LockFault>
-    ensures { result ≡ joined party (four words) }
-{
-    match party.stage {
-        Stage::Away => {
-            let writer = Party {
-                stage: Stage::InLine,
-                saved: 0,
-                ticket: words.win,
-            };
-            Ok(Change {
-                win: words.win.wrapping_add(1),
-                ..words_stay(Letter::Queued, writer, words)
-            })
-        }
-        _ => Err(LockFault::Unfit),
-    }
-}
-
-// A called writer posts: from here on readers are held off, and those that asked before are counted in what it saves.
-fn post(party: Party, words: Words) -> Change
-    ensures { result ≡ posted party (four words) }
-{
-    let rin = words.rin.wrapping_add(PRES + (party.ticket & PHID));
-    let writer = Party {
-        stage: Stage::Posted,
-        saved: words.rin,
-        ticket: party.ticket,
-    };
-    Change {
-        rin,
-        ..words_stay(Letter::Posted, writer, words)
-    }
-}
-
-// What rin and wout become as a writer goes out, by its leave and by its last advance. Were wout raised first, the next
-// writer could post before rin is cleared, and its bits would be wiped.
-fn way_out(last: bool, words: Words) -> (u32, u32)
-    ensures { (result.0 ≡ rin_out last words.rin) × (result.1 ≡ wout_out last words.wout) }
-{
-    if last {
-        (words.rin, words.wout.wrapping_add(1))
-    } else {
-        (words.rin & !LOW_BYTE, words.wout)
-    }
-}
-
-fn advance(party: Party, words: Words) -> Result<Change, LockFault>
-    ensures { result ≡ advanced party (four words) }
-{
-    match party.stage {
-        Stage::Waiting => {
-            if held_off(party.saved, words.rin & WBITS) {
-                Ok(words_stay(Letter::Waits, party, words))
-            } else {
-                Ok(enter(party, Stage::Reading, words))
-            }
-        }
-        Stage::InLine => {
-            if party.ticket == words.wout {
-                Ok(words_stay(Letter::Called, party.at(Stage::Called), words))
-            } else {
-                Ok(words_stay(Letter::Waits, party, words))
-            }
-        }
-        Stage::Called => Ok(post(party, words)),
-        Stage::Posted => {
-            if party.saved == words.rout {
-                Ok(enter(party, Stage::Writing, words))
-            } else {
-                Ok(words_stay(Letter::Waits, party, words))
-            }
-        }
-        Stage::GoingOut => {
-            let (rin, wout) = way_out(true, words);
-            Ok(Change {
-                rin,
-                wout,
-                ..words_stay(Letter::Gone, NOBODY, words)
-            })
-        }
-        Stage::Away | Stage::Reading | Stage::Writing => Err(LockFault::Unfit),
-    }
-}
-
-fn leave(party: Party, words: Words) -> Result<Change, LockFault>
-    ensures { result ≡ left party (four words) }
-{
-    match party.stage {
-        Stage::Reading => {
-            Ok(Change {
-                rout: words.rout.wrapping_add(RINC),
-                ..words_stay(Letter::Away, NOBODY, words)
-            })
-        }
-        Stage::Writing => {
-            let (rin, wout) = way_out(false, words);
-            Ok(Change {
-                rin,
-                wout,
-                ..words_stay(Letter::Out, party.at(Stage::GoingOut), words)
-            })
-        }
-        _ => Err(LockFault::Unfit),
     }
 }

@@ -32,3 +32,28 @@ pub struct Words {
     ghost whole: { rout % 256 ≡ 0 },
     ghost flags: { (rin % 256 < 4) × (rin % 256 ≢ 1) },
 }
+
+/// The four words as plain numbers. By itself a step may lead out of `Words`: a writer that posted twice
+/// would set bits beyond its flags.
+#[derive(Clone, Copy)]
+pub struct Four {
+    pub rin: u32,
+    pub rout: u32,
+    pub win: u32,
+    pub wout: u32,
+}
+
+impl From<Words> for Four {
+    ghost use Rattle.pft_steps.specs.Steps.{four};
+
+    ghost from_gives = { λ words result. result ≡ four words };
+
+    fn from(words: Words) -> Four {
+        Four {
+            rin: words.rin,
+            rout: words.rout,
+            win: words.win,
+            wout: words.wout,
+        }
+    }
+}

@@ -1,5 +1,4 @@
-use Rattle.std.proofs.Common.{ℕ, take, replicate, refl, ap, ◌∙◌, arith}
-use Rattle.pft.specs.Sound.{Sound, seen}
+use Rattle.std.proofs.Common.{◌≡◌, refl, ◌∙◌, arith}
 use Rattle.pft_steps.specs.Steps.{nobody}
 use Rattle.pft.proofs.Ahead.{open_sound, open_seen}
 use Rattle.pft.proofs.lock.Pft.with_all_away.Goals as goal
@@ -16,16 +15,18 @@ invariant_of-result c =
 
 pub invariant_of-result-2 : goal.invariant_of-result-2
 invariant_of-result-2 c =
-    let P : ℕ → Type 0 = λ r. Sound r r c.args.start c.args.start (take c.args.parties (replicate 32 nobody)) in
+    let a = c.default-away.ensures in
+    let d : c.default-away.result ≡ nobody = λ k. record { stage = a.0 k; saved = a.1.0 k; ticket = a.1.1 k } in
     record {
       within = (c.requires, refl);
-      sound = ∣ rw c.readers_at-readers.ensures (open_sound c.args.start c.args.parties c.requires c.ranges.start.fits) ∣₁;
+      sound = ∣ rw (c.readers_at-readers.ensures, d) (open_sound c.args.start c.args.parties c.requires c.ranges.start.fits) ∣₁;
     }
 
 pub returns : goal.returns
 returns c =
-    let e = c.readers_at-readers.ensures in
-    record {
-      words = λ k. record { count = c.args.parties; words = record { rin = e k; rout = e k; win = c.args.start; wout = c.args.start }; parties = replicate 32 nobody };
-      shows = ap (λ (r : ℕ). seen r c.args.start (take c.args.parties (replicate 32 nobody))) e ∙ open_seen c.args.start c.args.parties c.requires;
-    }
+    let a = c.default-away.ensures in
+    let d : c.default-away.result ≡ nobody = λ k. record { stage = a.0 k; saved = a.1.0 k; ticket = a.1.1 k } in
+    rw (c.readers_at-readers.ensures, d) (record {
+      words = refl;
+      shows = open_seen c.args.start c.args.parties c.requires;
+    })
