@@ -1,18 +1,18 @@
 -- How many writers are before a party in the line, and a lock that is opened.
-use Rattle.std.proofs.Common.{◌≡◌, ℕ, zero, suc, ◌+◌, ◌-◌, ◌*◌, ◌%◌, ◌^◌, ◌<◌, ◌≤◌, true, false, eqb, List, [], ◌∷◌, map, length, get_or, take, replicate, sum_by, sym, refl, ap, ◌∙◌, ⊎_elim, arith}
+use Rattle.std.proofs.Common.{mul-zero, ◌≡◌, ℕ, zero, suc, ◌+◌, ◌-◌, ◌%◌, ◌^◌, ◌<◌, ◌≤◌, true, false, eqb, List, [], ◌∷◌, map, length, get_or, take, replicate, sum_by, sym, refl, ap, ◌∙◌, ⊎_elim, arith}
+use lib.Seq.{take-length}
 use Rattle.std.specs.List.{range_with_len}
 use Rattle.std.proofs.lemmas.List.FromFn.{get_or-map-range_with_len, length-map-range_with_len}
 use Rattle.std.proofs.lemmas.List.Sums.{get_or-le-sum_by}
-use Rattle.std.proofs.lemmas.List.{get_or-replicate, take-replicate, length-replicate}
-use Rattle.std.proofs.lemmas.Bool.{lt-ltb, le-ltb, eq-eqb, ne_eqb, or_left, or_right, or_from, cond-true, cond-false, cases_lt}
-use Rattle.phase.specs.Book.{new}
+use Rattle.std.proofs.lemmas.List.Folds.{sum_by-replicate}
+use Rattle.std.proofs.lemmas.Bool.{lt-ltb, le-ltb, eq-eqb, ne_eqb, or_left, or_right, or_from, cond-true, cond-false, cond_both, cases_lt}
+use Rattle.phase.specs.Book.{Book, new}
 use Rattle.phase.specs.Line.{has, place, ahead}
-use Rattle.pft.specs.Sound.{Sound, holds, holder, line_of, writer, writer_at, reader, present_in, stands_as, seen}
+use Rattle.pft.specs.Sound.{Sound, holds, holder, line_of, writer, writer_at, stands_as, seen}
 use Rattle.phase.specs.declared.kinds.Standing.{Standing}
 use Rattle.phase.specs.declared.kinds.Standing.TheVariants as S
 use Rattle.pft_steps.specs.declared.party.Stage.{Stage}
 use Rattle.pft_steps.specs.declared.party.Party.{Party}
-use Rattle.pft.proofs.Lists.{sum_by-none}
 use Rattle.pft.proofs.Line.{holder_is, holder_holds, holds_ticket}
 use Rattle.pft_steps.proofs.Wrap.{wrap_cancel}
 use Rattle.pft.proofs.Given.{Given, holds_no, holds_yes, few_writers}
@@ -25,6 +25,14 @@ place_is (x ∷ js) i zero h e n = (or_left (eqb x i) _ (eq-eqb x i e), cond-tru
 place_is (x ∷ js) i (suc k) h e n =
     let rest = place_is js i k (omega arith) e (λ j l. n (suc j) (omega arith)) in
     (or_right (eqb x i) _ rest.0, cond-false (eqb x i) 0 _ (ne_eqb x i (n 0 (omega arith))) ∙ ap suc rest.1)
+
+place_le : (js : List ℕ) (i : ℕ) → place i js ≤ length js
+place_le [] i = omega arith
+place_le (x ∷ js) i = cond_both (eqb x i) 0 (suc (place i js)) (λ n. n ≤ suc (length js)) (λ _. omega arith) (λ _. let k = place_le js i in omega arith)
+
+-- nobody has more before it than a line is long
+pub ahead_le : (b : Book) (i : ℕ) → ahead b i ≤ length b.line
+ahead_le b i = cond_both (has i b.line) (place i b.line) 0 (λ n. n ≤ length b.line) (λ _. place_le b.line i) (λ _. omega arith)
 
 -- one that a list does not have
 has_not : (js : List ℕ) (i : ℕ) → ((j : ℕ) → j < length js → get_or js j 0 ≡ i → ⊥) → has i js ≡ false
@@ -72,9 +80,6 @@ module _ {rin rout win wout : ℕ} {ps : List Party} {i : ℕ} {d : Party} {st :
         )))
         (cases_lt (((get_or ps i d).ticket + (2 ^ 32 - wout)) % 2 ^ 32) (sum_by writer ps))
 
-    pub ahead_few : ((get_or ps i d).ticket + (2 ^ 32 - wout)) % 2 ^ 32 < sum_by writer ps
-    ahead_few = in_line
-
     pub ahead_is : ahead (seen rin wout ps) i ≡ ((get_or ps i d).ticket + (2 ^ 32 - wout)) % 2 ^ 32
     ahead_is =
         let k : ℕ = ((get_or ps i d).ticket + (2 ^ 32 - wout)) % 2 ^ 32 in
@@ -89,8 +94,8 @@ module _ {rin rout win wout : ℕ} {ps : List Party} {i : ℕ} {d : Party} {st :
         cond-true _ _ 0 p.0 ∙ p.1
 
 -- a party past the parties is in no line
-pub ahead_past : (rin rout win wout : ℕ) (ps : List Party) (i : ℕ) → Sound rin rout win wout ps → sum_by writer ps ≤ 32 → length ps ≤ i → ahead (seen rin wout ps) i ≡ 0
-ahead_past rin rout win wout ps i s few h =
+pub none_past : (rin rout win wout : ℕ) (ps : List Party) (i : ℕ) → Sound rin rout win wout ps → sum_by writer ps ≤ 32 → length ps ≤ i → ahead (seen rin wout ps) i ≡ 0
+none_past rin rout win wout ps i s few h =
     let f : ℕ → ℕ = λ k. holder ((wout + k) % 2 ^ 32) ps in
     let long : length (line_of wout ps) ≡ sum_by writer ps = length-map-range_with_len _ 0 (sum_by writer ps) in
     cond-false _ _ 0 (has_not (line_of wout ps) i (λ j l e.
@@ -101,33 +106,14 @@ ahead_past rin rout win wout ps i s few h =
     omega (arith, o.0)))
 
 -- a lock with all parties away
-none_there : (f : Party → ℕ) (n : ℕ) → f nobody ≡ 0 → sum_by f (replicate n nobody) ≡ 0
-none_there f n z = sum_by-none f (replicate n nobody) (λ j d l. ap f (get_or-replicate n j nobody d (rw length-replicate at l)) ∙ z)
-
-pub fresh_sound : (c n r : ℕ) → n ≤ 32 → c < 2 ^ 32 → r % 256 ≡ 0 → r < 2 ^ 32 → Sound r r c c (replicate n nobody)
-fresh_sound c n r few fits low rf =
-    let w = none_there writer n refl in
-    record {
-      few = rw length-replicate few;
-      readers = rw (none_there reader n refl) (omega arith);
-      writers = rw w (omega arith);
-      shown = rw (none_there (present_in (r % 4)) n refl) (omega arith);
-      tickets = λ k l. rw (none_there (holds ((c + k) % 2 ^ 32)) n (holds_no _ nobody refl), w) (sym (cond-false _ 1 0 (le-ltb k 0 (omega arith))));
-      each = λ j d l. rw (get_or-replicate n j nobody d (rw length-replicate at l)) tt;
-    }
-
 map_away : (f n : ℕ) → map (stands_as f) (replicate n nobody) ≡ replicate n S.Away
 map_away f zero = refl
 map_away f (suc n) = ap (λ (xs : List Standing). S.Away ∷ xs) (map_away f n)
 
-pub fresh_seen : (r c n : ℕ) → seen r c (replicate n nobody) ≡ new n
-fresh_seen r c n =
-    let l : line_of c (replicate n nobody) ≡ [] = ap (λ (m : ℕ). map (λ k. holder ((c + k) % 2 ^ 32) (replicate n nobody)) (range_with_len 0 m)) (none_there writer n refl) in
-    λ k. record { standings = map_away (r % 4) n k; line = l k }
+no_writer : (n : ℕ) → sum_by writer (replicate n nobody) ≡ 0
+no_writer n = sum_by-replicate writer n nobody ∙ mul-zero n
 
--- the array that opening writes
-pub open_sound : (c n : ℕ) → n ≤ 32 → c < 2 ^ 32 → Sound (c * 256 % 2 ^ 32) (c * 256 % 2 ^ 32) c c (take n (replicate 32 nobody))
-open_sound c n few fits = rw (take-replicate n 32 nobody few) (fresh_sound c n (c * 256 % 2 ^ 32) few fits (omega arith) (omega arith))
-
-pub open_seen : (c n : ℕ) → n ≤ 32 → seen (c * 256 % 2 ^ 32) c (take n (replicate 32 nobody)) ≡ new n
-open_seen c n few = ap (λ (ps : List Party). seen (c * 256 % 2 ^ 32) c ps) (take-replicate n 32 nobody few) ∙ fresh_seen (c * 256 % 2 ^ 32) c n
+pub fresh_seen : (r c n : ℕ) (ps : List Party) → ps ≡ replicate n nobody → seen r c (take (length ps) ps) ≡ new n
+fresh_seen r c n ps e =
+    let l : line_of c (replicate n nobody) ≡ [] = ap (λ (m : ℕ). map (λ k. holder ((c + k) % 2 ^ 32) (replicate n nobody)) (range_with_len 0 m)) (no_writer n) in
+    rw (take-length ps, e) (λ k. record { standings = map_away (r % 4) n k; line = l k })

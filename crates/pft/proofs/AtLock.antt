@@ -1,133 +1,100 @@
 -- The calls and the questions, at a lock.
-use Rattle.std.proofs.Common.{◌≡◌, ℕ, ◌+◌, ◌-◌, ◌%◌, ◌^◌, ◌<◌, ◌≤◌, true, List, get_or, take, set, Ok, Err, Result, sym, refl, ap, ◌∙◌, arith, length-take, get_or-take}
+use Rattle.std.specs.Option.{IsSome, IfSome}
+use Rattle.std.proofs.Common.{◌↔◌, Option, Some, ◌≡◌, ℕ, ◌+◌, ◌-◌, ◌%◌, ◌^◌, ◌<◌, ◌≤◌, true, List, get_or, take, set, Ok, sym, refl, ap, ◌∙◌, arith, length, length-set, sum_by}
 use mathlib.Core.Path.{subst⁻¹}
-use lib.Bits.{bit_and}
-use lib.ListN.{length-map}
-use lib.Seq.{take-set-lt}
-use Rattle.std.proofs.lemmas.Nat.{and_mask}
-use Rattle.std.proofs.lemmas.List.{get_or_past}
-use Rattle.std.proofs.lemmas.Bool.{cond-true, cond-false, lt-ltb, le-ltb}
-use Rattle.phase.specs.Book.{Steps, count, standing}
+use Rattle.std.proofs.lemmas.List.{take_all}
+use lib.Seq.{take-length}
+use Rattle.phase.specs.Book.{Book, Steps}
 use Rattle.phase.specs.Calls.{caller}
 use Rattle.phase.specs.Line.{ahead}
-use Rattle.phase.specs.declared.faults.LockFault.{LockFault}
-use Rattle.phase.specs.declared.faults.LockFault.TheVariants.{Unfit}
-use Rattle.phase.specs.declared.kinds.Standing.TheVariants as S
 use Rattle.phase.specs.declared.kinds.LockCall.{LockCall}
-use Rattle.pft_steps.specs.Steps.{four, nobody, before_at, next, standing_at}
-use Rattle.pft.specs.Sound.{Sound, seen, writer_at}
-use Rattle.pft.specs.Model.{state, book, after, applied}
+use Rattle.pft_steps.specs.Steps.{four, nobody, before_at, next}
+use Rattle.pft.specs.Sound.{Kept, Sound, seen, holder, writer, writer_at}
+use Rattle.pft.specs.Model.{state, applied, book_of, book}
 use Rattle.pft_steps.specs.declared.party.Stage.{Stage}
 use Rattle.pft_steps.specs.declared.party.Stage.TheVariants as G
 use Rattle.pft_steps.specs.declared.party.Party.{Party}
 use Rattle.pft_steps.specs.declared.steps.Change.{Change}
+use Rattle.pft_steps.specs.declared.steps.Turn.{Turn}
 use Rattle.pft.specs.declared.lock.Pft.{Pft}
-use Rattle.phase.proofs.Stepping.{says_so, refuses_so, past_refused}
-use Rattle.pft.proofs.Given.{Given, writers_le, stands, few_writers}
-use Rattle.pft.proofs.Good.{Kept, Here, Good}
+use Rattle.phase.proofs.Stepping.{says_so}
+use Rattle.pft.proofs.Given.{Given, writers_le}
+use Rattle.pft.proofs.Good.{Here, Accepted, Good}
 use Rattle.pft.proofs.Good as good
 use Rattle.pft.proofs.Props.{opened}
-use Rattle.pft.proofs.Ahead.{ahead_none, ahead_is, ahead_past, ahead_few}
+use Rattle.pft.proofs.Ahead.{ahead_none, ahead_is, ahead_le, none_past}
+use Rattle.std.proofs.lemmas.List.FromFn.{length-map-range_with_len}
 
 abbrev ps : Pft → List Party
-ps l = take l.count l.parties
+ps l = l.parties.items
 
-many : (l : Pft) → count (book l) ≡ l.count
-many l = simp (length-map, length-take) (omega (arith, l.within.0, l.within.1))
-
-pub past : (l : Pft) (c : LockCall) (i : ℕ) → i ≡ caller c → l.count ≤ i → Steps true c (book l) (Err Unfit) (book l)
-past l c i e h = let m = many l in refuses_so true c (book l) (Err Unfit) refl (past_refused true c (book l) (omega (arith, m)))
-
-pub past_state : (l : Pft) (c : LockCall) (i : ℕ) → i ≡ caller c → l.count ≤ i → state l ≡ after c (state l)
-past_state l c i e h = sym (cond-false _ _ (state l) (le-ltb (caller c) l.count (omega arith)))
+-- a lock shows all its parties
+book_is : (l : Pft) → book l ≡ seen l.words.rin l.words.wout (ps l)
+book_is l = ap (seen l.words.rin l.words.wout) (take-length (ps l))
 
 -- what is known where a party of the lock calls
-here_at : (l : Pft) (i : ℕ) → i < l.count → Here (four l.words) (ps l) i
+here_at : (l : Pft) (i : ℕ) → i < length (ps l) → Here (four l.words) (ps l) i
 here_at l i h = record {
   sound = opened l.sound;
   kept = record { fits = l.words.fits; whole = l.words.whole; flags = l.words.flags };
-  here = rw length-take (omega (arith, l.within.0, l.within.1));
+  here = h;
 }
 
--- the lock after an accepted step
+-- what an accepted step of a party of the lock makes
 pub record Taken (l : Pft) (c : LockCall) (i : ℕ) (h : Change) : Type 0 where
   pub kept : Kept h.words
-  pub sound : Sound h.words.rin h.words.rout h.words.win h.words.wout (take l.count (set l.parties i h.party))
-  pub steps : Steps true c (book l) (Ok h.letter) (seen h.words.rin h.words.wout (take l.count (set l.parties i h.party)))
-  pub words : applied i (state l) (Ok h) ≡ after c (state l)
+  pub sound : Sound h.words.rin h.words.rout h.words.win h.words.wout (set (ps l) i h.party)
+  pub steps : Steps true c (book l) (Ok h.letter) (book_of (applied i (state l) (Ok h)))
 
--- and after a refused one
-pub record Stays (l : Pft) (c : LockCall) (f : LockFault) : Type 0 where
-  pub steps : Steps true c (book l) (Err f) (book l)
-  pub words : state l ≡ after c (state l)
-
-abbrev pub Came : Pft → LockCall → ℕ → Result Change LockFault → Type 0
-Came l c i (Ok h) = Taken l c i h
-Came l c i (Err f) = Stays l c f
-
-module _ (l : Pft) (c : LockCall) (here : caller c < l.count) where
-  cut : (q : Party) → take l.count (set l.parties (caller c) q) ≡ set (ps l) (caller c) q
-  cut q = take-set-lt l.count l.parties (caller c) q here
-
-  after_is : (r : Result Change LockFault) → r ≡ next c (get_or l.parties (caller c) nobody) (four l.words) → applied (caller c) (state l) r ≡ after c (state l)
-  after_is r e = ap (applied (caller c) (state l)) e ∙ sym (cond-true _ _ (state l) (lt-ltb (caller c) l.count here))
-
-  from_good : (r : Result Change LockFault) → r ≡ next c (get_or l.parties (caller c) nobody) (four l.words) → Good (four l.words) (ps l) (caller c) c r → Came l c (caller c) r
-  from_good (Ok h) e g = record {
-    kept = g.kept;
-    sound = rw (cut h.party) g.sound;
-    steps = rw (cut h.party) (says_so true c (book l) _ _ g.moves);
-    words = after_is (Ok h) e;
-  }
-  from_good (Err f) e g = record { steps = refuses_so true c (book l) (Err f) refl g; words = after_is (Err f) e }
-
-  came : (r : Result Change LockFault) → r ≡ next c (get_or l.parties (caller c) nobody) (four l.words) → Came l c (caller c) r
-  came r e =
-      let same : get_or (ps l) (caller c) nobody ≡ get_or l.parties (caller c) nobody = get_or-take l.count l.parties (caller c) nobody here in
-      from_good r e (subst⁻¹ (Good (four l.words) (ps l) (caller c) c) (e ∙ ap (λ (p : Party). next c p (four l.words)) (sym same)) (good.good (four l.words) (ps l) c (here_at l (caller c) here)))
-
--- every call of a party that the lock has
-pub comes : (l : Pft) (c : LockCall) (i : ℕ) → i ≡ caller c → i < l.count → (r : Result Change LockFault) → r ≡ next c (get_or l.parties i nobody) (four l.words) → Came l c i r
-comes l c i e =
-    let P : ℕ → Type 0 = λ j. j < l.count → (r : Result Change LockFault) → r ≡ next c (get_or l.parties j nobody) (four l.words) → Came l c j r in
-    subst⁻¹ P e (λ h r m. came l c h r m)
+pub taken : (l : Pft) (c : LockCall) (i : ℕ) (r : Option Turn) (t : Turn) (h : Change) → i ≡ caller c → (IsSome r ↔ (i < length (ps l))) → IfSome r (λ t. (t.party ≡ get_or (ps l) i nobody) × (t.words ≡ four l.words)) → r ≡ Some t → Ok h ≡ next c t.party t.words → Taken l c i h
+taken l c i r t h e known found is step =
+    let here : caller c < length (ps l) = rw e at (known.0 (rw is refl)) in
+    let mine = rw is at found in
+    let to : Ok h ≡ next c (get_or (ps l) (caller c) nobody) (four l.words) = rw (sym e) (rw mine.0 at (rw mine.1 at step)) in
+    let g : Accepted (four l.words) (ps l) (caller c) c h = subst⁻¹ (Good (four l.words) (ps l) (caller c) c) to (good.good (four l.words) (ps l) c (here_at l (caller c) here)) in
+    let all : take (length (ps l)) (set (ps l) (caller c) h.party) ≡ set (ps l) (caller c) h.party = take_all _ _ (omega (arith, length-set (ps l) (caller c) h.party)) in
+    rw e (record { kept = g.kept; sound = g.sound; steps = rw (book_is l, all) (says_so true c _ _ _ g.moves) })
 
 -- the questions
-module _ (l : Pft) (i : ℕ) (here : i < l.count) where
-  same : get_or (ps l) i nobody ≡ get_or l.parties i nobody
-  same = get_or-take l.count l.parties i nobody here
+ahead_at : (l : Pft) (i : ℕ) → ahead (book l) i ≡ ahead (seen l.words.rin l.words.wout (ps l)) i
+ahead_at l i = ap (λ (b : Book). ahead b i) (book_is l)
 
-  given : (st : Stage) → (get_or l.parties i nobody).stage ≡ st → Given l.words.rin l.words.rout l.words.win l.words.wout (ps l) i nobody st
-  given st e = good.given (four l.words) (ps l) i (here_at l i here) st (ap (λ (p : Party). p.stage) same ∙ e)
+module _ (l : Pft) (i : ℕ) (here : i < length (ps l)) where
+  given : (st : Stage) → (get_or (ps l) i nobody).stage ≡ st → Given l.words.rin l.words.rout l.words.win l.words.wout (ps l) i nobody st
+  given = good.given (four l.words) (ps l) i (here_at l i here)
 
-  pub standing_is : standing (book l) i ≡ standing_at (bit_and l.words.rin 3) (get_or l.parties i nobody).stage (get_or l.parties i nobody).saved
-  standing_is =
-      stands (given _ refl) ∙ ap (λ (p : Party). standing_at (l.words.rin % 4) (get_or l.parties i nobody).stage p.saved) same
-      ∙ ap (λ (n : ℕ). standing_at n (get_or l.parties i nobody).stage (get_or l.parties i nobody).saved) (sym (and_mask l.words.rin 2))
+  writer_is : (st : Stage) → (get_or (ps l) i nobody).stage ≡ st → (get_or (ps l) i nobody).ticket < 2 ^ 32 → writer_at st ≡ 1 → ahead (book l) i ≡ ((get_or (ps l) i nobody).ticket + (2 ^ 32 - l.words.wout)) % 2 ^ 32
+  writer_is st e f w = ahead_at l i ∙ ahead_is (given st e) w f
 
-  writer_is : (st : Stage) → (get_or l.parties i nobody).stage ≡ st → (get_or l.parties i nobody).ticket < 2 ^ 32 → writer_at st ≡ 1 → (ahead (book l) i ≡ ((get_or l.parties i nobody).ticket + (2 ^ 32 - l.words.wout)) % 2 ^ 32) × (((get_or l.parties i nobody).ticket + (2 ^ 32 - l.words.wout)) % 2 ^ 32 < 32)
-  writer_is st e f w =
-      let g = given st e in
-      let moved : ((get_or (ps l) i nobody).ticket + (2 ^ 32 - l.words.wout)) % 2 ^ 32 ≡ ((get_or l.parties i nobody).ticket + (2 ^ 32 - l.words.wout)) % 2 ^ 32 = ap (λ (p : Party). (p.ticket + (2 ^ 32 - l.words.wout)) % 2 ^ 32) same in
-      let k = ahead_few g w (rw same f) in
-      (ahead_is g w (rw same f) ∙ moved, omega (arith, k, moved, few_writers g))
+  none_is : (st : Stage) → (get_or (ps l) i nobody).stage ≡ st → writer_at st ≡ 0 → ahead (book l) i ≡ 0
+  none_is st e w = ahead_at l i ∙ ahead_none (given st e) w
 
-  -- the number of writers before the party, and that it is below 32
-  before_is : (st : Stage) → (get_or l.parties i nobody).stage ≡ st → (get_or l.parties i nobody).ticket < 2 ^ 32 → (ahead (book l) i ≡ before_at st (get_or l.parties i nobody).ticket l.words.wout) × (before_at st (get_or l.parties i nobody).ticket l.words.wout < 32)
-  before_is G.Away e f = (ahead_none (given G.Away e) refl, omega arith)
-  before_is G.Waiting e f = (ahead_none (given G.Waiting e) refl, omega arith)
-  before_is G.Reading e f = (ahead_none (given G.Reading e) refl, omega arith)
+  before_is : (st : Stage) → (get_or (ps l) i nobody).stage ≡ st → (get_or (ps l) i nobody).ticket < 2 ^ 32 → ahead (book l) i ≡ before_at st (get_or (ps l) i nobody).ticket l.words.wout
+  before_is G.Away e f = none_is G.Away e refl
+  before_is G.Waiting e f = none_is G.Waiting e refl
+  before_is G.Reading e f = none_is G.Reading e refl
   before_is G.InLine e f = writer_is G.InLine e f refl
   before_is G.Called e f = writer_is G.Called e f refl
   before_is G.Posted e f = writer_is G.Posted e f refl
   before_is G.Writing e f = writer_is G.Writing e f refl
   before_is G.GoingOut e f = writer_is G.GoingOut e f refl
 
-  pub ahead_here : (get_or l.parties i nobody).ticket < 2 ^ 32 → (ahead (book l) i ≡ before_at (get_or l.parties i nobody).stage (get_or l.parties i nobody).ticket l.words.wout) × (before_at (get_or l.parties i nobody).stage (get_or l.parties i nobody).ticket l.words.wout < 32)
-  ahead_here f = before_is _ refl f
+-- the number of writers before a party of the lock
+pub ahead_here : (l : Pft) (i : ℕ) (t : Turn) → i < length (ps l) → (t.party ≡ get_or (ps l) i nobody) × (t.words ≡ four l.words) → t.party.ticket < 2 ^ 32 → ahead (book l) i ≡ before_at t.party.stage t.party.ticket t.words.wout
+ahead_here l i t here found fits = rw (found.0, found.1) (before_is l i here _ refl (rw found.0 at fits))
 
-pub standing_past : (l : Pft) (i : ℕ) → l.count ≤ i → standing (book l) i ≡ S.Away
-standing_past l i h = let m = many l in get_or_past (book l).standings i S.Away (omega (arith, m))
+-- and before any other
+pub ahead_past : (l : Pft) (i : ℕ) → length (ps l) ≤ i → ahead (book l) i ≡ 0
+ahead_past l i h = let s = opened l.sound in ahead_at l i ∙ none_past _ _ _ _ (ps l) i s (writers_le (ps l) s.few) h
 
-pub ahead_outer : (l : Pft) (i : ℕ) → l.count ≤ i → ahead (book l) i ≡ 0
-ahead_outer l i h = let s = opened l.sound in ahead_past _ _ _ _ (ps l) i s (writers_le (ps l) s.few) (rw length-take (omega arith))
+-- the line has at most 32 writers
+pub ahead_few : (l : Pft) (i : ℕ) → ahead (book l) i ≤ 32
+ahead_few l i =
+    let s = opened l.sound in
+    omega (
+      arith,
+      ahead_at l i,
+      ahead_le (seen l.words.rin l.words.wout (ps l)) i,
+      length-map-range_with_len (λ k. holder ((l.words.wout + k) % 2 ^ 32) (ps l)) 0 (sum_by writer (ps l)),
+      writers_le (ps l) s.few,
+    )

@@ -100,13 +100,7 @@ module _ {rin rout win wout : ℕ} {ps : List Party} {i : ℕ} {d : Party} {st :
       )
 
   pub few_writers : sum_by writer ps ≤ 32
-  few_writers =
-      omega (
-        arith,
-        g.sound.few,
-        sum_by_le writer 1 ps (All-from_get_or (λ p. writer p ≤ 1) ps d
-            (λ j h. writer_le (get_or ps j d).stage)),
-      )
+  few_writers = writers_le ps g.sound.few
 
   -- only one writer holds the ticket that is first
   pub only : (get_or ps i d).ticket ≡ wout → writer_at st ≡ 1 → (j : ℕ) (e : Party) → j < length ps → j ≢ i → writer (get_or ps j e) ≡ 1 → (get_or ps j e).ticket ≡ wout → ⊥

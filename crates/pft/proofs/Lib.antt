@@ -1,5 +1,4 @@
 mod Lists
-mod Masks
 mod Count
 mod Props
 mod Line

@@ -1,5 +1,6 @@
 -- The lock as a model: its value, the phase book that it shows, and its own steps.
 use Rattle.std.specs.Prelude.{ℕ, ◌*◌, ◌%◌, ◌^◌, true, cond, List, take, replicate, Ok, Err, Result, nat_lt, slice_index_or, slice_set}
+use Rattle.arrayvec.specs.ArrayVec.{array_vec_len}
 use Rattle.phase.specs.Book.{Book, Answer, step, right_count}
 use Rattle.phase.specs.Calls.{caller}
 use Rattle.phase.specs.declared.faults.LockFault.{LockFault}
@@ -20,9 +21,9 @@ pub record State : Type 0 where
 -- the lock's value as a state
 abbrev pub state : Pft → State
 state l = record {
-  count = l.count;
+  count = array_vec_len l.parties;
   words = four l.words;
-  parties = l.parties;
+  parties = l.parties.items;
 }
 
 -- the phase book that a state shows
@@ -56,7 +57,7 @@ abbrev pub opened : ℕ → ℕ → State
 opened n start = record {
   count = n;
   words = record { rin = start * 256 % 2 ^ 32; rout = start * 256 % 2 ^ 32; win = start; wout = start };
-  parties = replicate 32 nobody;
+  parties = replicate n nobody;
 }
 
 -- what the lock holds after an opening: nothing changes unless there are 1 to 32 parties

@@ -8,6 +8,7 @@ use Rattle.pft_steps.specs.Steps.{standing_at}
 use Rattle.pft_steps.specs.declared.party.Stage.{Stage}
 use Rattle.pft_steps.specs.declared.party.Stage.TheVariants as G
 use Rattle.pft_steps.specs.declared.party.Party.{Party}
+use Rattle.pft_steps.specs.declared.words.Four.{Four}
 
 -- a party's standing
 abbrev pub stands_as : ℕ → Party → Standing
@@ -110,6 +111,12 @@ FitAt G.GoingOut s t rin rout wout goes acts = (t ≡ wout) × (rin % 256 ≡ 0)
 -- the same of a party, by all parties
 abbrev pub Fit : ℕ → ℕ → ℕ → List Party → Party → Type 0
 Fit rin rout wout ps p = FitAt p.stage p.saved p.ticket rin rout wout (sum_by going ps) (sum_by (active_in (rin % 4)) ps)
+
+-- what four words are by themselves
+pub record Kept (w : Four) : Type 0 where
+  pub fits : (w.rin < 2 ^ 32) × (w.rout < 2 ^ 32) × (w.win < 2 ^ 32) × (w.wout < 2 ^ 32)
+  pub whole : w.rout % 256 ≡ 0
+  pub flags : (w.rin % 256 < 4) × (w.rin % 256 ≢ 1)
 
 -- the lock's invariant
 pub record Sound (rin rout win wout : ℕ) (ps : List Party) : Type 0 where

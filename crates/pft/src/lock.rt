@@ -1,6 +1,7 @@
-ghost use Rattle.std.specs.Prelude.{◌≡◌, ◌≤◌, length, take};
+ghost use Rattle.std.specs.Prelude.{◌≡◌};
 ghost use Rattle.pft.specs.Sound.{Sound};
 
+use arrayvec::ArrayVec;
 use pft_steps::party::Party;
 use pft_steps::words::Words;
 
@@ -8,11 +9,8 @@ use pft_steps::words::Words;
 #[derive(Drop)]
 pub struct Pft {
     pub(crate) words: Words,
-    pub(crate) count: usize,
-    // Of the parties the first `count` exist.
-    pub(crate) parties: [Party; 32],
-    ghost within: { (count ≤ 32) × (length parties ≡ 32) },
-    ghost sound: { ∥ Sound words.rin words.rout words.win words.wout (take count parties) ∥₁ },
+    pub(crate) parties: ArrayVec<Party, 32>,
+    ghost sound: { ∥ Sound words.rin words.rout words.win words.wout parties.items ∥₁ },
 }
 
 impl Pft {
