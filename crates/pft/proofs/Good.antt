@@ -70,7 +70,11 @@ module _ (w : Four) (ps : List Party) (i : ℕ) (at : Here w ps i) where
     moves = rw (set-get_or ps i nobody) e;
   }
 
-  asked_as : (get_or ps i nobody).stage ≡ G.Away → (l : Letter) → step true (RequestRead i) (seen w.rin w.wout ps) ≡ says l (seen ((w.rin + 256) % 2 ^ 32) w.wout (set ps i (ask.asked (w.rin % 4)))) → Accepted w ps i (RequestRead i) (record { letter = l; party = ask.asked (w.rin % 4); words = record { rin = (w.rin + 256) % 2 ^ 32; rout = w.rout; win = w.win; wout = w.wout } })
+  -- a request to read that saves n
+  abbrev asked_to : Letter → ℕ → Change
+  asked_to l n = record { letter = l; party = ask.asked n; words = record { rin = (w.rin + 256) % 2 ^ 32; rout = w.rout; win = w.win; wout = w.wout } }
+
+  asked_as : (get_or ps i nobody).stage ≡ G.Away → (l : Letter) → step true (RequestRead i) (seen w.rin w.wout ps) ≡ says l (seen ((w.rin + 256) % 2 ^ 32) w.wout (set ps i (ask.asked (w.rin % 4)))) → Accepted w ps i (RequestRead i) (asked_to l (w.rin % 4))
   asked_as e l m =
       let k = at.kept in
       record {
@@ -81,10 +85,10 @@ module _ (w : Four) (ps : List Party) (i : ℕ) (at : Here w ps i) where
 
   good_ask : (st : Stage) → (get_or ps i nobody).stage ≡ st → Good w ps i (RequestRead i) (ask_at st w)
   good_ask G.Away e =
-      let P : ℕ → Type 0 = λ n. Accepted w ps i (RequestRead i) (record { letter = letter_met n; party = ask.asked n; words = record { rin = (w.rin + 256) % 2 ^ 32; rout = w.rout; win = w.win; wout = w.wout } }) in
+      let P : ℕ → Type 0 = λ n. Accepted w ps i (RequestRead i) (asked_to (letter_met n) n) in
       subst⁻¹ P (and_mask w.rin 2)
       (cond_both (eqb (w.rin % 4) 0) L.Cleared L.Held
-      (λ (l : Letter). Accepted w ps i (RequestRead i) (record { letter = l; party = ask.asked (w.rin % 4); words = record { rin = (w.rin + 256) % 2 ^ 32; rout = w.rout; win = w.win; wout = w.wout } }))
+      (λ (l : Letter). Accepted w ps i (RequestRead i) (asked_to l (w.rin % 4)))
       (λ t. asked_as e L.Cleared (ask.read_cleared (given G.Away e) (eqb-true _ _ t)))
       (λ t. asked_as e L.Held (ask.read_held (given G.Away e) (eqb-false _ _ t))))
   good_ask G.Waiting e = tt

@@ -112,7 +112,7 @@ FitAt G.GoingOut s t rin rout wout goes acts = (t ≡ wout) × (rin % 256 ≡ 0)
 abbrev pub Fit : ℕ → ℕ → ℕ → List Party → Party → Type 0
 Fit rin rout wout ps p = FitAt p.stage p.saved p.ticket rin rout wout (sum_by going ps) (sum_by (active_in (rin % 4)) ps)
 
--- what four words are by themselves
+-- the four words by themselves are such as `Words` are
 pub record Kept (w : Four) : Type 0 where
   pub fits : (w.rin < 2 ^ 32) × (w.rout < 2 ^ 32) × (w.win < 2 ^ 32) × (w.wout < 2 ^ 32)
   pub whole : w.rout % 256 ≡ 0

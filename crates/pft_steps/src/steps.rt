@@ -15,7 +15,7 @@ pub struct Change {
     pub words: Four,
 }
 
-/// A party at the four words.
+/// A party, and the four words as it finds them.
 #[derive(Clone, Copy)]
 pub struct Turn {
     pub party: Party,
