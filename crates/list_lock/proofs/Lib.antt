@@ -1,4 +1,2 @@
-pub mod Looks
 pub mod Keeps
-pub mod Values
-pub mod Ways
+pub mod Looks

@@ -7,7 +7,7 @@ use Rattle.list_lock.specs.declared.lock.ListLock.{ListLock}
 
 -- the book that the lock keeps
 abbrev pub book_of : ListLock → Book
-book_of l = shown l.count l.standings l.len l.line
+book_of l = shown l.standings l.line
 
 -- a refused call changes nothing, and every call makes the book's step
 pub record Moved (s : ListLock) (c : LockCall) (r : Answer) (t : ListLock) : Type 0 where
@@ -25,9 +25,7 @@ Bare l = book_of l ≡ new 0
 
 -- two locks with the same data
 pub record Same (s t : ListLock) : Type 0 where
-  pub count : s.count ≡ t.count
   pub standings : s.standings ≡ t.standings
-  pub len : s.len ≡ t.len
   pub line : s.line ≡ t.line
 
 -- one value of the lock shows a book, so that what the book is says what the lock holds

@@ -1,12 +1,13 @@
 -- The book that the lock's data show, and what the lock keeps true of them.
-use Rattle.std.specs.Prelude.{◌≡◌, ℕ, ◌≤◌, Bool, true, false, List, take, slice_index_or}
+use Rattle.std.specs.Prelude.{◌≡◌, ℕ, Bool, true, false}
+use Rattle.arrayvec.specs.ArrayVec.{ArrayVec}
 use Rattle.phase.specs.Book.{Book, standing}
 use Rattle.phase.specs.declared.kinds.Standing.{Standing}
 use Rattle.phase.specs.declared.kinds.Standing.TheVariants as S
 
--- the standings of n parties, and the first m of the line
-abbrev pub shown : ℕ → List Standing → ℕ → List ℕ → Book
-shown n xs m ys = record { standings = take n xs; line = take m ys }
+-- the standings and the line, as they are
+abbrev pub shown : ArrayVec Standing → ArrayVec ℕ → Book
+shown standings line = record { standings = standings.items; line = line.items }
 
 -- a writer that is going out
 abbrev pub is_out : Standing → Bool
@@ -23,7 +24,3 @@ is_out S.GoingOut = true
 -- no writer is going out, as in every one-step lock
 abbrev pub NobodyOut : Book → Type 0
 NobodyOut b = (q : ℕ) → is_out (standing b q) ≡ false
-
--- from n on, the list has nothing but d
-abbrev pub Blank : {X : Type 0} → X → ℕ → List X → Type 0
-Blank d n xs = (k : ℕ) → n ≤ k → slice_index_or xs k d ≡ d

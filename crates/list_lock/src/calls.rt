@@ -1,10 +1,13 @@
-ghost use Rattle.std.specs.Prelude.{false};
+ghost use Rattle.std.specs.Prelude.{◌≡◌, ◌<◌, ◌≤◌, false, IfOk, OnErr};
+ghost use Rattle.phase.specs.Book.{standing as standing_in, count, put, queue, gone, freeing};
+ghost use Rattle.phase.specs.Line.{is_writer};
+ghost use Rattle.phase.specs.declared.kinds.Standing.TheVariants.{Away, Writing};
+ghost use Rattle.list_lock.specs.Shown.{is_out};
 ghost use Rattle.list_lock.specs.Moved.{book_of, Moved, Began, Bare};
 
 use crate::lock::ListLock;
 use crate::parts::{
-    all_away, any_bars, any_near, free, is_first, join, on_advance, on_leave, on_request_read,
-    on_request_write, place_in, standing_in, without,
+    all_away, any_bars, any_near, free, is_first, on_advance, on_request_read, place_in, take_off,
 };
 use phase::faults::{LockFault, OpenFault};
 use phase::kinds::{Letter, Standing};
@@ -36,63 +39,91 @@ impl Lock for ListLock {
     }
 
     fn standing(&self, party: u8) -> Standing {
-        standing_in(&self.standings[..self.count], party)
+        self.known(party).unwrap_or_default()
     }
 
     fn ahead(&self, party: u8) -> u8 {
-        place_in(&self.line[..self.len], party)
+        place_in(&self.line, party)
     }
 
     fn request_read(&mut self, party: u8) -> Result<Letter, LockFault> {
-        let p = party as usize;
-        if p >= self.count {
-            return Err(LockFault::Unfit);
-        }
-        let barred = any_bars(&self.standings[..self.count]);
-        let (next, letter) = on_request_read(self.standings[p], barred)?;
-        self.standings[p] = next;
+        let standing = self.known(party)?;
+        let barred = any_bars(&self.standings);
+        let (next, letter) = on_request_read(standing, barred)?;
+        self.put(party, next);
         Ok(letter)
     }
 
     fn request_write(&mut self, party: u8) -> Result<Letter, LockFault> {
-        let p = party as usize;
-        if p >= self.count {
-            return Err(LockFault::Unfit);
+        match self.known(party)? {
+            Standing::Away => {
+                self.queue(party);
+                Ok(Letter::Queued)
+            }
+            _ => Err(LockFault::Unfit),
         }
-        let (next, letter) = on_request_write(self.standings[p])?;
-        self.standings[p] = next;
-        self.len = join(&mut self.line, self.len, party);
-        Ok(letter)
     }
 
     fn advance(&mut self, party: u8) -> Result<Letter, LockFault> {
-        let p = party as usize;
-        if p >= self.count {
-            return Err(LockFault::Unfit);
-        }
-        let first = is_first(&self.line[..self.len], party);
-        let awaited = any_near(&self.standings[..self.count]);
-        let (next, letter) = on_advance(self.standings[p], first, awaited)?;
-        self.standings[p] = next;
+        let standing = self.known(party)?;
+        let first = is_first(&self.line, party);
+        let awaited = any_near(&self.standings);
+        let (next, letter) = on_advance(standing, first, awaited)?;
+        self.put(party, next);
         Ok(letter)
     }
 
     fn leave(&mut self, party: u8) -> Result<Letter, LockFault> {
-        let p = party as usize;
-        if p >= self.count {
-            return Err(LockFault::Unfit);
+        match self.known(party)? {
+            Standing::Reading => self.put(party, Standing::Away),
+            Standing::Writing => self.release(party),
+            _ => return Err(LockFault::Unfit),
         }
-        let writes = on_leave(self.standings[p])?;
-        if writes {
-            free(&mut self.standings);
-            self.standings[p] = Standing::Away;
-            let (line, len) = without(&self.line[..self.len], party);
-            self.line = line;
-            self.len = len;
-            Ok(Letter::Away)
-        } else {
-            self.standings[p] = Standing::Away;
-            Ok(Letter::Away)
-        }
+        Ok(Letter::Away)
+    }
+}
+
+impl ListLock {
+    /// The standing of a party that the lock has.
+    fn known(&self, party: u8) -> Result<Standing, LockFault>
+        ensures found { IfOk result (λ s. (party < count (book_of self.now)) × (standing_in (book_of self.now) party ≡ s)) }
+        ensures one_step { IfOk result (λ s. is_out s ≡ false) }
+        ensures unknown { OnErr result (count (book_of self.now) ≤ party) }
+    {
+        self.standings
+            .get(party as usize)
+            .copied()
+            .ok_or(LockFault::Unfit)
+    }
+
+    /// Puts a party at another standing, as a writer if it was one.
+    fn put(&mut self, party: u8, next: Standing)
+        requires here { party < count (book_of self.old) }
+        requires alike { is_writer next ≡ is_writer (standing_in (book_of self.old) party) }
+        requires stays { is_out next ≡ false }
+        ensures { book_of self.new ≡ put (book_of self.old) party next }
+    {
+        self.standings[party as usize] = next;
+    }
+
+    /// Puts a party that is away into the line, at its end.
+    fn queue(&mut self, party: u8)
+        requires here { party < count (book_of self.old) }
+        requires away { standing_in (book_of self.old) party ≡ Away }
+        ensures { book_of self.new ≡ queue (book_of self.old) party }
+    {
+        self.standings[party as usize] = Standing::InLine;
+        self.line.push(party);
+    }
+
+    /// Lets a writer out: it is away and off the line, and every reader held off is cleared.
+    fn release(&mut self, party: u8)
+        requires here { party < count (book_of self.old) }
+        requires inside { standing_in (book_of self.old) party ≡ Writing }
+        ensures { book_of self.new ≡ gone (freeing (book_of self.old)) party }
+    {
+        free(&mut self.standings);
+        self.standings[party as usize] = Standing::Away;
+        take_off(&mut self.line, party);
     }
 }

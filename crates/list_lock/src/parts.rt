@@ -1,12 +1,12 @@
-ghost use Rattle.std.specs.Prelude.{◌≡◌, ℕ, ◌+◌, ◌<◌, ◌≤◌, true, false, map, length, take, if◌then◌else◌, slice_index_or, slice_set};
-ghost use Rattle.phase.specs.Book.{Book, new, some, bars, near, freed, leads, standing, read_as, write_as, advance_as, leave_as};
-ghost use Rattle.phase.specs.Line.{has, place};
-ghost use Rattle.phase.specs.declared.kinds.Standing.TheVariants.{Away};
+ghost use Rattle.std.specs.Prelude.{◌≡◌, ℕ, ◌≤◌, false, map, length, if◌then◌else◌, IfOk};
+ghost use Rattle.phase.specs.Book.{Book, new, some, bars, near, freed, leads, without, standing, read_as, advance_as};
+ghost use Rattle.phase.specs.Line.{has, place, is_writer};
 ghost use Rattle.list_lock.specs.Moved.{book_of};
-ghost use Rattle.list_lock.specs.Shown.{is_out, Blank};
-ghost use Rattle.list_lock.specs.Turns.{puts, queues, leaves};
+ghost use Rattle.list_lock.specs.Shown.{is_out};
+ghost use Rattle.list_lock.specs.Turns.{puts};
 
 use crate::lock::ListLock;
+use arrayvec::ArrayVec;
 use phase::faults::LockFault;
 use phase::kinds::{Letter, Standing};
 
@@ -15,32 +15,23 @@ pub(crate) fn all_away(count: usize) -> ListLock
     requires { count ≤ 32 }
     ensures { book_of result ≡ new count }
 {
+    let mut standings = ArrayVec::from([Standing::Away; 32]);
+    standings.truncate(count);
     ListLock {
-        count,
-        standings: [Standing::Away; 32],
-        line: [0; 32],
-        len: 0,
+        standings,
+        line: ArrayVec::new(),
     }
 }
 
 /// What a request to read makes of its caller's standing, and its letter. `barred`: a writer is posted or
 /// inside.
 pub(crate) fn on_request_read(s: Standing, barred: bool) -> Result<(Standing, Letter), LockFault>
-    ensures { (b : Book) (p : ℕ) → some bars b.standings ≡ barred → read_as s p b ≡ puts result p b }
+    ensures turned { (b : Book) (p : ℕ) → some bars b.standings ≡ barred → read_as s p b ≡ puts result p b }
+    ensures alike { IfOk result (λ t. (is_writer t.0 ≡ is_writer s) × (is_out t.0 ≡ false)) }
 {
     match s {
         Standing::Away if barred => Ok((Standing::HeldOff, Letter::Held)),
         Standing::Away => Ok((Standing::Cleared, Letter::Cleared)),
-        _ => Err(LockFault::Unfit),
-    }
-}
-
-/// What a request to write makes of its caller's standing, and its letter.
-pub(crate) fn on_request_write(s: Standing) -> Result<(Standing, Letter), LockFault>
-    ensures { (b : Book) (p : ℕ) → write_as s p b ≡ queues result p b }
-{
-    match s {
-        Standing::Away => Ok((Standing::InLine, Letter::Queued)),
         _ => Err(LockFault::Unfit),
     }
 }
@@ -53,7 +44,8 @@ pub(crate) fn on_advance(
     awaited: bool,
 ) -> Result<(Standing, Letter), LockFault>
     requires { is_out s ≡ false }
-    ensures { (b : Book) (p : ℕ) → standing b p ≡ s → leads b.line p ≡ first → some near b.standings ≡ awaited → advance_as s p b ≡ puts result p b }
+    ensures turned { (b : Book) (p : ℕ) → standing b p ≡ s → leads b.line p ≡ first → some near b.standings ≡ awaited → advance_as s p b ≡ puts result p b }
+    ensures alike { IfOk result (λ t. (is_writer t.0 ≡ is_writer s) × (is_out t.0 ≡ false)) }
 {
     match s {
         Standing::HeldOff => Ok((s, Letter::Waits)),
@@ -67,45 +59,18 @@ pub(crate) fn on_advance(
     }
 }
 
-/// Whether the caller of a leave was writing.
-pub(crate) fn on_leave(s: Standing) -> Result<bool, LockFault>
-    ensures { (b : Book) (p : ℕ) → leave_as false s p b ≡ leaves result p b }
-{
-    match s {
-        Standing::Reading => Ok(false),
-        Standing::Writing => Ok(true),
-        _ => Err(LockFault::Unfit),
-    }
-}
-
-/// A party's standing, away for a party that the list does not have.
-pub(crate) fn standing_in(standings: &[Standing], party: u8) -> Standing
-    ensures { result ≡ slice_index_or standings.now party Away }
-{
-    match standings.get(party as usize) {
-        Some(s) => *s,
-        None => Standing::Away,
-    }
-}
-
 /// A writer at this standing holds off a reader's request.
 fn holds_off(s: Standing) -> bool
     ensures { result ≡ bars s }
 {
-    match s {
-        Standing::Posted | Standing::Writing => true,
-        _ => false,
-    }
+    matches!(s, Standing::Posted | Standing::Writing)
 }
 
 /// A reader at this standing keeps a posted writer out.
 fn is_near(s: Standing) -> bool
     ensures { result ≡ near s }
 {
-    match s {
-        Standing::Cleared | Standing::Reading => true,
-        _ => false,
-    }
+    matches!(s, Standing::Cleared | Standing::Reading)
 }
 
 /// A party's standing once the readers held off are cleared.
@@ -122,24 +87,14 @@ fn once_free(s: Standing) -> Standing
 pub(crate) fn any_bars(standings: &[Standing]) -> bool
     ensures { result ≡ some bars standings.now }
 {
-    for s in standings {
-        if holds_off(*s) {
-            return true;
-        }
-    }
-    false
+    standings.iter().any(|s| holds_off(*s))
 }
 
 /// Whether a reader is cleared or inside.
 pub(crate) fn any_near(standings: &[Standing]) -> bool
     ensures { result ≡ some near standings.now }
 {
-    for s in standings {
-        if is_near(*s) {
-            return true;
-        }
-    }
-    false
+    standings.iter().any(|s| is_near(*s))
 }
 
 /// Clears every reader held off.
@@ -155,10 +110,7 @@ pub(crate) fn free(standings: &mut [Standing])
 pub(crate) fn is_first(line: &[u8], party: u8) -> bool
     ensures { result ≡ leads line.now party }
 {
-    match line.first() {
-        Some(first) => *first == party,
-        None => false,
-    }
+    line.first() == Some(&party)
 }
 
 /// The number of writers before the party, 0 where it is not in the line.
@@ -166,38 +118,13 @@ pub(crate) fn place_in(line: &[u8], party: u8) -> u8
     requires { length line.now ≤ 32 }
     ensures { result ≡ (if has party line.now then place party line.now else 0) }
 {
-    for (i, x) in line.iter().enumerate() {
-        if *x == party {
-            return i as u8;
-        }
-    }
-    0
+    let place = line.iter().position(|writer| *writer == party);
+    place.unwrap_or(0) as u8
 }
 
-/// Puts the party behind the first `len` of the line, and gives their new number.
-pub(crate) fn join(line: &mut [u8], len: usize, party: u8) -> usize
-    requires { len < length line.old }
-    ensures written { line.new ≡ slice_set line.old len party }
-    ensures one { result ≡ len + 1 }
+/// Takes the party off the line.
+pub(crate) fn take_off(line: &mut ArrayVec<u8, 32>, party: u8)
+    ensures { line.new.items ≡ without party line.old.items }
 {
-    line[len] = party;
-    len + 1
-}
-
-/// The line without the party, and its length.
-pub(crate) fn without(line: &[u8], party: u8) -> ([u8; 32], usize)
-    requires { length line.now ≤ 32 }
-    ensures short { result.1 ≤ 32 }
-    ensures long { length result.0 ≡ 32 }
-    ensures front { take result.1 result.0 ≡ Rattle.phase.specs.Book.without party line.now }
-    ensures behind { Blank 0 result.1 result.0 }
-{
-    let mut rest = [0; 32];
-    let mut len = 0;
-    for x in line {
-        if *x != party {
-            len = join(&mut rest, len, *x);
-        }
-    }
-    (rest, len)
+    line.retain(|writer| *writer != party);
 }

@@ -1,14 +1,10 @@
-use Rattle.std.proofs.Common.{sym, ap, ◌∙◌, arith}
-use Rattle.std.proofs.lemmas.List.{take_all}
-use Rattle.phase.specs.Book.{some, bars}
-use Rattle.list_lock.proofs.Looks.{some_found, some_more}
+use Rattle.std.proofs.Common.{rules, ◌∙◌}
+use borrow.Author.Tests.{tests}
+use Rattle.std.proofs.lemmas.Iterator.{YieldsList-from_slice}
+use Rattle.std.proofs.lemmas.Iterator.Search.{any_from_yields_List}
+use Rattle.phase.specs.Book.{bars}
+use Rattle.list_lock.proofs.Looks.{some_is}
 use Rattle.list_lock.proofs.parts.any_bars.Goals as goal
 
-pub returns-then-holds_off : goal.returns-then-holds_off
-returns-then-holds_off c = sym (some_found bars c.args.standings.now c.loop-s.s-index (omega arith) (grind arith))
-
-pub loop-s-preserved : goal.loop-s-preserved
-loop-s-preserved c = some_more bars c.args.standings.now c.loop-s.s-index c.loop-s.invariant (grind arith)
-
 pub returns : goal.returns
-returns c = sym c.loop-s.invariant ∙ ap (some bars) (take_all _ _ c.loop-s-test.false)
+returns c = any_from_yields_List bars _ _ _ c.any.ensures.ran (YieldsList-from_slice c.args.standings.now (cc)) (λ x b q k. search (rules, tests)) ∙ some_is bars c.args.standings.now
