@@ -76,7 +76,10 @@ impl Lock for ListLock {
     fn leave(&mut self, party: u8) -> Result<Letter, LockFault> {
         match self.known(party)? {
             Standing::Reading => self.put(party, Standing::Away),
-            Standing::Writing => self.release(party),
+            Standing::Writing => {
+                self.free();
+                self.retire(party);
+            }
             _ => return Err(LockFault::Unfit),
         }
         Ok(Letter::Away)
@@ -97,6 +100,7 @@ impl ListLock {
     }
 
     /// Puts a party at another standing, as a writer if it was one.
+    #[tactic(auto, using(crate::proofs::Keeps::keeps))]
     fn put(&mut self, party: u8, next: Standing)
         requires here { party < count (book_of self.old) }
         requires alike { is_writer next ≡ is_writer (standing_in (book_of self.old) party) }
@@ -107,6 +111,7 @@ impl ListLock {
     }
 
     /// Puts a party that is away into the line, at its end.
+    #[tactic(auto, using(crate::proofs::Keeps::keeps))]
     fn queue(&mut self, party: u8)
         requires here { party < count (book_of self.old) }
         requires away { standing_in (book_of self.old) party ≡ Away }
@@ -116,14 +121,20 @@ impl ListLock {
         self.line.push(party);
     }
 
-    /// Lets a writer out: it is away and off the line, and every reader held off is cleared.
-    fn release(&mut self, party: u8)
-        requires here { party < count (book_of self.old) }
-        requires inside { standing_in (book_of self.old) party ≡ Writing }
-        ensures { book_of self.new ≡ gone (freeing (book_of self.old)) party }
+    /// Puts a party away and takes it off the line.
+    #[tactic(auto, using(crate::proofs::Keeps::keeps))]
+    fn retire(&mut self, party: u8)
+        requires { party < count (book_of self.old) }
+        ensures { book_of self.new ≡ gone (book_of self.old) party }
     {
-        free(&mut self.standings);
         self.standings[party as usize] = Standing::Away;
         take_off(&mut self.line, party);
+    }
+
+    /// Clears every reader held off.
+    fn free(&mut self)
+        ensures { book_of self.new ≡ freeing (book_of self.old) }
+    {
+        free(&mut self.standings);
     }
 }

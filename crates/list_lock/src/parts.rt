@@ -11,6 +11,7 @@ use phase::faults::LockFault;
 use phase::kinds::{Letter, Standing};
 
 /// A lock with all parties away.
+#[tactic(auto, using(std::proofs::lemmas::Grind::common_steps, crate::proofs::Keeps::all_away))]
 pub(crate) fn all_away(count: usize) -> ListLock
     requires { count ≤ 32 }
     ensures { book_of result ≡ new count }
