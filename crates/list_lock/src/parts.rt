@@ -1,28 +1,12 @@
 ghost use Rattle.std.specs.Prelude.{◌≡◌, ℕ, ◌≤◌, false, map, length, if◌then◌else◌, IfOk};
-ghost use Rattle.phase.specs.Book.{Book, new, some, bars, near, freed, leads, without, standing, read_as, advance_as};
+ghost use Rattle.phase.specs.Book.{Book, some, bars, near, freed, leads, without, standing, read_as, advance_as};
 ghost use Rattle.phase.specs.Line.{has, place, is_writer};
-ghost use Rattle.list_lock.specs.Moved.{book_of};
 ghost use Rattle.list_lock.specs.Shown.{is_out};
 ghost use Rattle.list_lock.specs.Turns.{puts};
 
-use crate::lock::ListLock;
 use arrayvec::ArrayVec;
 use phase::faults::LockFault;
 use phase::kinds::{Letter, Standing};
-
-/// A lock with all parties away.
-#[tactic(auto, using(std::proofs::lemmas::Grind::common_steps, crate::proofs::Keeps::all_away))]
-pub(crate) fn all_away(count: usize) -> ListLock
-    requires { count ≤ 32 }
-    ensures { book_of result ≡ new count }
-{
-    let mut standings = ArrayVec::from([Standing::Away; 32]);
-    standings.truncate(count);
-    ListLock {
-        standings,
-        line: ArrayVec::new(),
-    }
-}
 
 /// What a request to read makes of its caller's standing, and its letter. `barred`: a writer is posted or
 /// inside.
