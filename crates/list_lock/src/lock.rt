@@ -1,7 +1,7 @@
 ghost use Rattle.phase.specs.Line.{Lined};
 ghost use Rattle.list_lock.specs.Shown.{shown, NobodyOut};
 
-use crate::parts::{free, take_off};
+use crate::parts::{once_free, take_off};
 use arrayvec::ArrayVec;
 use phase::faults::LockFault;
 use phase::kinds::Standing;
@@ -70,6 +70,7 @@ impl ListLock {
         ensures { book_of self.new ≡ queue (book_of self.old) party }
     {
         self.standings[party as usize] = Standing::InLine;
+        // There is room, since the party is not in the line yet and no other is in it twice.
         self.line.push(party);
     }
 
@@ -87,6 +88,8 @@ impl ListLock {
     pub(crate) fn free(&mut self)
         ensures { book_of self.new ≡ freeing (book_of self.old) }
     {
-        free(&mut self.standings);
+        for standing in self.standings.iter_mut() {
+            *standing = once_free(*standing);
+        }
     }
 }

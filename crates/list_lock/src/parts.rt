@@ -59,7 +59,7 @@ fn is_near(s: Standing) -> bool
 }
 
 /// A party's standing once the readers held off are cleared.
-fn once_free(s: Standing) -> Standing
+pub(crate) fn once_free(s: Standing) -> Standing
     ensures { result ≡ freed s }
 {
     match s {
@@ -80,15 +80,6 @@ pub(crate) fn any_near(standings: &[Standing]) -> bool
     ensures { result ≡ some near standings.now }
 {
     standings.iter().any(|s| is_near(*s))
-}
-
-/// Clears every reader held off.
-pub(crate) fn free(standings: &mut [Standing])
-    ensures { standings.new ≡ map freed standings.old }
-{
-    for s in standings.iter_mut() {
-        *s = once_free(*s);
-    }
 }
 
 /// Whether the party is first in the line.
