@@ -14,6 +14,7 @@ use Rattle.list_lock.specs.Moved.{book_of}
 use Rattle.list_lock.specs.Shown.{is_out}
 use Rattle.list_lock.specs.declared.lock.ListLock.{ListLock}
 
+-- the lock's ghost fields at one party
 pub lined_at : (l : ListLock) (q : ℕ) → times q l.line.items ≡ one (is_writer (get_or l.standings.items q S.Away))
 lined_at l q = l.lined q
 
@@ -42,13 +43,12 @@ times_without q p ys = elim (cases_eq q p) [
 pub standing_freed : (xs : List Standing) (q : ℕ) → get_or (map freed xs) q S.Away ≡ freed (get_or xs q S.Away)
 standing_freed xs q = get_or-map freed xs q S.Away
 
-pub freed_writer : (s : Standing) → is_writer (freed s) ≡ is_writer s
-freed_writer s = grind arith
-
 pub freed_out : (s : Standing) → is_out (freed s) ≡ is_out s
 freed_out s = grind arith
 
+-- the standings that a lock with all parties away is made of
 pub all_away : (n : ℕ) → n ≤ 32 → take n (replicate 32 S.Away) ≡ replicate n S.Away
 all_away n h = take-replicate n 32 S.Away h
 
+-- what the check needs where one party's standing or the line changes
 pub ruleset keeps = (common_steps, lined_at, stays_at, standing_set, room, times_more, times_without)

@@ -3,7 +3,8 @@ use Rattle.std.proofs.lemmas.Grind.{common_steps}
 use Rattle.std.proofs.lemmas.List.Edits.{map_over_more}
 use Rattle.std.proofs.lemmas.List.{take_all, drop_all, append-nil}
 use Rattle.phase.specs.Book.{freed}
-use Rattle.list_lock.proofs.Keeps.{standing_freed, freed_writer, freed_out, lined_at, stays_at}
+use Rattle.phase.proofs.Lines.{freed_writer}
+use Rattle.list_lock.proofs.Keeps.{standing_freed, freed_out, lined_at, stays_at}
 use Rattle.list_lock.proofs.lock.ListLock.free.Goals as goal
 
 pub loop-standing-preserved : goal.loop-standing-preserved
