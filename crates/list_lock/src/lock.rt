@@ -26,7 +26,7 @@ impl ListLock {
     ghost use Rattle.list_lock.specs.Moved.{book_of};
 
     /// A lock with all parties away.
-    #[tactic(auto, using(std::proofs::lemmas::Grind::common_steps, crate::proofs::Keeps::all_away))]
+    #[tactic(auto, using(crate::proofs::Keeps::all_away, phase::proofs::Lines::away_new))]
     pub(crate) fn all_away(count: usize) -> Self
         requires { count ≤ 32 }
         ensures { book_of result ≡ new count }
