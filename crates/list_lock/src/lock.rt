@@ -1,3 +1,4 @@
+ghost use Rattle.std.specs.Prelude.{◌≤◌, length};
 ghost use Rattle.phase.specs.Line.{Lined};
 ghost use Rattle.list_lock.specs.Shown.{shown, NobodyOut};
 
@@ -12,13 +13,14 @@ use phase::kinds::Standing;
 pub struct ListLock {
     pub(crate) standings: ArrayVec<Standing, 32>,
     pub(crate) line: ArrayVec<u8, 32>,
+    ghost within: { (length standings.items ≤ 32) × (length line.items ≤ 32) },
     ghost lined: { Lined (shown standings line) },
     // Nobody is ever going out, so that no call has to serve that standing.
     ghost stays: { NobodyOut (shown standings line) },
 }
 
 impl ListLock {
-    ghost use Rattle.std.specs.Prelude.{◌≡◌, ◌<◌, ◌≤◌, false, IfOk, OnErr};
+    ghost use Rattle.std.specs.Prelude.{◌≡◌, ◌<◌, false, IfOk, OnErr};
     ghost use Rattle.phase.specs.Book.{standing, count, new, put, queue, gone, freeing};
     ghost use Rattle.phase.specs.Line.{is_writer};
     ghost use Rattle.phase.specs.declared.kinds.Standing.TheVariants.{Away};
@@ -46,7 +48,7 @@ impl ListLock {
         ensures unknown { OnErr result (count (book_of self.now) ≤ party) }
     {
         self.standings
-            .get(party as usize)
+            .get(usize::from(party))
             .copied()
             .ok_or(LockFault::Unfit)
     }
@@ -59,7 +61,7 @@ impl ListLock {
         requires stays { is_out next ≡ false }
         ensures { book_of self.new ≡ put (book_of self.old) party next }
     {
-        self.standings[party as usize] = next;
+        self.standings[usize::from(party)] = next;
     }
 
     /// Puts a party that is away into the line, at its end.
@@ -69,7 +71,7 @@ impl ListLock {
         requires away { standing (book_of self.old) party ≡ Away }
         ensures { book_of self.new ≡ queue (book_of self.old) party }
     {
-        self.standings[party as usize] = Standing::InLine;
+        self.standings[usize::from(party)] = Standing::InLine;
         // There is room, since the party is not in the line yet and no other is in it twice.
         self.line.push(party);
     }
@@ -80,7 +82,7 @@ impl ListLock {
         requires { party < count (book_of self.old) }
         ensures { book_of self.new ≡ gone (book_of self.old) party }
     {
-        self.standings[party as usize] = Standing::Away;
+        self.standings[usize::from(party)] = Standing::Away;
         take_off(&mut self.line, party);
     }
 

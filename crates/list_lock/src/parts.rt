@@ -1,4 +1,4 @@
-ghost use Rattle.std.specs.Prelude.{◌≡◌, ℕ, ◌≤◌, false, map, length, if◌then◌else◌, IfOk};
+ghost use Rattle.std.specs.Prelude.{◌≡◌, ℕ, ◌≤◌, false, length, if◌then◌else◌, IfOk};
 ghost use Rattle.phase.specs.Book.{Book, some, bars, near, freed, leads, without, standing, read_as, advance_as};
 ghost use Rattle.phase.specs.Line.{has, place, is_writer};
 ghost use Rattle.list_lock.specs.Shown.{is_out};
@@ -100,7 +100,8 @@ pub(crate) fn place_in(line: &[u8], party: u8) -> u8
 
 /// Takes the party off the line.
 pub(crate) fn take_off(line: &mut ArrayVec<u8, 32>, party: u8)
-    ensures { line.new.items ≡ without party line.old.items }
+    ensures gone { line.new.items ≡ without party line.old.items }
+    ensures short { length line.new.items ≤ length line.old.items }
 {
     line.retain(|writer| *writer != party);
 }

@@ -1,4 +1,4 @@
-ghost use Rattle.std.specs.Prelude.{◌≡◌, ◌<◌, ℕ};
+ghost use Rattle.std.specs.Prelude.{◌≡◌};
 ghost use Rattle.std.proofs.Common.{rules};
 ghost use Rattle.listing_lines.specs.Numbers.{number_of as listing_number, layer_of as listing_layer, place_of as listing_place};
 ghost use Rattle.listing_lines.specs.declared.faults.ListingFault.TheVariants.{OfSchedule};

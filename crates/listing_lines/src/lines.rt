@@ -9,12 +9,12 @@ use phase::kinds::Letter;
 use schedule::faults::{PlacedFault, ScheduleFault};
 
 /// The bytes of the longest line, that of a lock's four words.
-const LONGEST: usize = 36;
+const LONGEST_LINE: usize = 36;
 
 /// A line of a listing.
 #[derive(Drop)]
 pub struct Line {
-    bytes: ArrayVec<u8, LONGEST>,
+    bytes: ArrayVec<u8, LONGEST_LINE>,
 }
 
 impl Line {
@@ -22,7 +22,7 @@ impl Line {
     pub fn new(place: u16, word: u16, answer: Result<Letter, LockFault>) -> Line
         ensures { text result ≡ line place word answer }
     {
-        let mut line = Line::blank();
+        let mut line = Line::empty();
         line.put(&digits::<4, 10>(place.into()));
         line.put(b" ");
         line.put(&digits::<4, 16>(word.into()));
@@ -43,7 +43,7 @@ impl Line {
 pub fn refusal_line(fault: ScheduleFault) -> Line
     ensures { text result ≡ refusal_line fault }
 {
-    let mut line = Line::blank();
+    let mut line = Line::empty();
     line.put(&refusal_mark(fault));
     line.put(b" ");
     line.put(&digits::<4, 10>(fault.place().into()));
@@ -55,8 +55,8 @@ pub fn refusal_line(fault: ScheduleFault) -> Line
 pub fn last_line(words: [u32; 4]) -> Line
     ensures { text result ≡ last_line (slice_index words 0) (slice_index words 1) (slice_index words 2) (slice_index words 3) }
 {
-    let mut line = Line::blank();
-    // A space behind each word, and behind the last the line's end.
+    let mut line = Line::empty();
+    // A blank behind each word, and behind the last the end of the line.
     for (word, end) in words.iter().zip(b"   \n") {
         line.put(&digits::<8, 16>(*word));
         line.put(&[*end]);
@@ -65,7 +65,7 @@ pub fn last_line(words: [u32; 4]) -> Line
 }
 
 impl Line {
-    fn blank() -> Line
+    fn empty() -> Line
         ensures { text result ≡ [] }
     {
         Line {
@@ -75,7 +75,7 @@ impl Line {
 
     /// Appends bytes.
     fn put(&mut self, bytes: &[u8])
-        requires { length (text self.old) + length bytes.now ≤ LONGEST }
+        requires { length (text self.old) + length bytes.now ≤ LONGEST_LINE }
         ensures { text self.new ≡ text self.old ++ bytes.now }
     {
         self.bytes.try_extend_from_slice(bytes).unwrap();
@@ -83,7 +83,7 @@ impl Line {
 
     /// Appends what a word came to.
     fn put_outcome(&mut self, answer: Result<Letter, LockFault>)
-        requires { length (text self.old) + 3 ≤ LONGEST }
+        requires { length (text self.old) + 3 ≤ LONGEST_LINE }
         ensures { text self.new ≡ text self.old ++ outcome answer }
     {
         match answer {

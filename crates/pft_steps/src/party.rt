@@ -36,7 +36,7 @@ impl Party {
     /// The number of writers that are before the party in the line, by its ticket.
     pub fn before(self, wout: u32) -> u32
         ensures answer { result ≡ before_at self.stage self.ticket wout }
-        // for a caller that passes an element of an array: it is not told by itself that the element fits
+        // for a caller to whom it is not told that a part of what it passes fits
         ensures fits { self.ticket < 2 ^ 32 }
     {
         match self.stage {

@@ -1,6 +1,6 @@
 ghost use Rattle.std.specs.Prelude.{◌≡◌, ◌*◌, ◌%◌, ◌^◌, bit_and};
-ghost use Rattle.phase.specs.declared.kinds.Letter.TheVariants.{Entered};
-ghost use Rattle.pft_steps.specs.Steps.{nobody, unchanged, moved, held, standing_at, letter_met, asked, joined, posted, advanced, left, next};
+ghost use Rattle.phase.specs.declared.kinds.Letter.TheVariants.{Entered, Waits};
+ghost use Rattle.pft_steps.specs.Steps.{unchanged, moved, held, standing_at, letter_met, asked, joined, posted, advanced, left, next};
 
 use crate::party::{Party, Stage};
 use crate::words::{Four, LOW_BYTE, PHID, PRES, RINC, WBITS};
@@ -110,7 +110,7 @@ impl Turn {
         match self.party.stage {
             Stage::Waiting => {
                 if self.held_off() {
-                    Ok(self.stay(Letter::Waits))
+                    Ok(self.wait())
                 } else {
                     Ok(self.enter(Stage::Reading))
                 }
@@ -119,7 +119,7 @@ impl Turn {
                 if self.party.ticket == self.words.wout {
                     Ok(self.go_to(Stage::Called, Letter::Called))
                 } else {
-                    Ok(self.stay(Letter::Waits))
+                    Ok(self.wait())
                 }
             }
             Stage::Called => Ok(self.post()),
@@ -127,7 +127,7 @@ impl Turn {
                 if self.party.saved == self.words.rout {
                     Ok(self.enter(Stage::Writing))
                 } else {
-                    Ok(self.stay(Letter::Waits))
+                    Ok(self.wait())
                 }
             }
             Stage::GoingOut => {
@@ -220,11 +220,11 @@ impl Turn {
     }
 
     // The party and the words stay.
-    fn stay(self, letter: Letter) -> Change
-        ensures { result ≡ unchanged letter self.party self.words }
+    fn wait(self) -> Change
+        ensures { result ≡ unchanged Waits self.party self.words }
     {
         Change {
-            letter,
+            letter: Letter::Waits,
             party: self.party,
             words: self.words,
         }

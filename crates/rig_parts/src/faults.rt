@@ -1,4 +1,4 @@
-ghost use Rattle.std.specs.Prelude.{◌≡◌, ◌<◌};
+ghost use Rattle.std.specs.Prelude.{◌≡◌};
 ghost use Rattle.std.proofs.Common.{rules};
 ghost use Rattle.rig_parts.specs.Numbers.{rig_number, rig_layer};
 ghost use Rattle.rig_parts.specs.declared.faults.RigFault.TheVariants.{OfLock, OfTill};

@@ -1,4 +1,4 @@
-ghost use Rattle.std.specs.Prelude.{◌≡◌, ◌<◌, ℕ};
+ghost use Rattle.std.specs.Prelude.{◌≡◌, ℕ};
 ghost use Rattle.std.proofs.Common.{rules};
 ghost use Rattle.schedule.specs.Numbers.{word_number, word_layer, number_of as schedule_number, layer_of as schedule_layer, place_of as schedule_place};
 
@@ -68,8 +68,7 @@ impl Fault for ScheduleFault {
 
     fn layer(self) -> Layer {
         match self {
-            ScheduleFault::TooLong => Layer::Schedule,
-            ScheduleFault::OddLength => Layer::Schedule,
+            ScheduleFault::TooLong | ScheduleFault::OddLength => Layer::Schedule,
             ScheduleFault::Word { place: _, fault } => fault.layer(),
         }
     }
@@ -82,8 +81,7 @@ impl PlacedFault for ScheduleFault {
 
     fn place(self) -> u16 {
         match self {
-            ScheduleFault::TooLong => 0,
-            ScheduleFault::OddLength => 0,
+            ScheduleFault::TooLong | ScheduleFault::OddLength => 0,
             ScheduleFault::Word { place, fault: _ } => place,
         }
     }

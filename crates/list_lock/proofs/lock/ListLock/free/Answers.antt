@@ -14,6 +14,7 @@ pub invariant_of-self : goal.invariant_of-self
 invariant_of-self c =
     let e : c.loop-standing.standing-items ≡ map freed c.deref_mut-standing-items.result.now = search (rules, take_all, drop_all, append-nil) in
     record {
+      within = grind (arith, common_steps);
       lined = λ q. grind (arith, common_steps, standing_freed, freed_writer, lined_at);
       stays = λ q. grind (arith, common_steps, standing_freed, freed_out, stays_at);
     }
