@@ -1,5 +1,5 @@
 -- The lines of a listing, byte by byte. Every line ends with the byte 10.
-use Rattle.std.specs.Prelude.{ℕ, List, [], ◌∷◌, ◌++◌, Ok, Err, Result}
+use Rattle.std.specs.Prelude.{ℕ, List, [], ◌∷◌, ◌++◌, take, Ok, Err, Result}
 use Rattle.phase.specs.Letters.{code_of}
 use Rattle.phase.specs.Numbers.{lock_number}
 use Rattle.phase.specs.declared.kinds.Letter.{Letter}
@@ -7,7 +7,7 @@ use Rattle.phase.specs.declared.faults.LockFault.{LockFault}
 use Rattle.schedule.specs.Numbers.{number_of, place_of}
 use Rattle.schedule.specs.declared.faults.ScheduleFault.{ScheduleFault}
 use Rattle.listing_lines.specs.Digits.{digits}
-use Rattle.listing_lines.specs.declared.lines.Line.{Line}
+use Rattle.listing_lines.specs.declared.line.Line.{Line}
 
 -- a refusal is an x and the number of its fault
 abbrev pub refusal : ℕ → List ℕ
@@ -32,4 +32,4 @@ refusal_line fault = refusal (number_of fault) ++ (32 ∷ digits 4 10 (place_of 
 
 -- the bytes of a line
 abbrev pub text : Line → List ℕ
-text l = l.bytes.items
+text l = take l.len l.bytes

@@ -2,4 +2,5 @@
 
 mod digits;
 pub mod faults;
+mod line;
 pub mod lines;

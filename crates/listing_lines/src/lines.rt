@@ -3,19 +3,11 @@ ghost use Rattle.phase.specs.Letters.{code_of};
 ghost use Rattle.listing_lines.specs.Lines.{line, outcome, refusal, text, last_line, refusal_line};
 
 use crate::digits::digits;
-use arrayvec::ArrayVec;
+use crate::line::LONGEST_LINE;
+pub use crate::line::Line;
 use phase::faults::{Fault, LockFault};
 use phase::kinds::Letter;
 use schedule::faults::{PlacedFault, ScheduleFault};
-
-/// The bytes of the longest line, that of a lock's four words.
-const LONGEST_LINE: usize = 36;
-
-/// A line of a listing.
-#[derive(Drop)]
-pub struct Line {
-    bytes: ArrayVec<u8, LONGEST_LINE>,
-}
 
 impl Line {
     /// The line of the word at a place and of what it came to.
@@ -35,7 +27,7 @@ impl Line {
     pub fn bytes(&self) -> &[u8]
         ensures { result.now ≡ text self.now }
     {
-        self.bytes.as_slice()
+        &self.bytes[..self.len]
     }
 }
 
@@ -69,16 +61,20 @@ impl Line {
         ensures { text result ≡ [] }
     {
         Line {
-            bytes: ArrayVec::new(),
+            bytes: [0; LONGEST_LINE],
+            len: 0,
         }
     }
 
     /// Appends bytes.
+    #[tactic(auto, using(std::proofs::lemmas::Slice::overwrites))]
     fn put(&mut self, bytes: &[u8])
         requires { length (text self.old) + length bytes.now ≤ LONGEST_LINE }
         ensures { text self.new ≡ text self.old ++ bytes.now }
     {
-        self.bytes.try_extend_from_slice(bytes).unwrap();
+        let end = self.len + bytes.len();
+        self.bytes[self.len..end].copy_from_slice(bytes);
+        self.len = end;
     }
 
     /// Appends what a word came to.

@@ -39,6 +39,10 @@ pub line_at_short : (s : Schedule) (place : ℕ) (st : State) → length (line_a
 unfolding line_at
 line_at_short s place st = line_short place (get_or (words s) (place - 1) 0) (answer (call_at s place) st)
 
+-- whatever the place, so that this asks nothing of the place
+pub short_line : (s : Schedule) (place : ℕ) (st : State) (bytes : List ℕ) → bytes ≡ line_at s place st → length bytes ≤ 14
+short_line s place st bytes is = rw is (line_at_short s place st)
+
 -- the lines from the word at a place on, and the last line
 abbrev pub rest_from : Schedule → ℕ → State → List ℕ
 rest_from s place st = lines_from place st (drop (place - 1) (words s)) (drop (place - 1) (calls s))

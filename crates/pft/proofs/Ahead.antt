@@ -70,7 +70,7 @@ module _ {rin rout win wout : ℕ} {ps : List Party} {i : ℕ} {d : Party} {st :
     small : ((get_or ps i d).ticket + (2 ^ 32 - wout)) % 2 ^ 32 < 2 ^ 32
     small = omega arith
 
-    in_line : ((get_or ps i d).ticket + (2 ^ 32 - wout)) % 2 ^ 32 < sum_by writer ps
+    pub in_line : ((get_or ps i d).ticket + (2 ^ 32 - wout)) % 2 ^ 32 < sum_by writer ps
     in_line =
         ⊎_elim (λ l. l) (λ l. absurd (omega (
           arith,

@@ -18,11 +18,11 @@ use Rattle.pft_steps.specs.declared.steps.Change.{Change}
 use Rattle.pft_steps.specs.declared.steps.Turn.{Turn}
 use Rattle.pft.specs.declared.lock.Pft.{Pft}
 use Rattle.phase.proofs.Stepping.{says_so}
-use Rattle.pft.proofs.Given.{Given, writers_le}
+use Rattle.pft.proofs.Given.{Given, writers_le, few_writers}
 use Rattle.pft.proofs.Good.{Here, Accepted, Good}
 use Rattle.pft.proofs.Good as good
 use Rattle.pft.proofs.Props.{opened}
-use Rattle.pft.proofs.Ahead.{ahead_none, ahead_is, ahead_le, none_past}
+use Rattle.pft.proofs.Ahead.{ahead_none, ahead_is, ahead_le, in_line, none_past}
 use Rattle.std.proofs.lemmas.List.FromFn.{length-map-range_with_len}
 
 abbrev ps : Pft → List Party
@@ -79,9 +79,27 @@ module _ (l : Pft) (i : ℕ) (here : i < length (ps l)) where
   before_is G.Writing e f = writer_is G.Writing e f refl
   before_is G.GoingOut e f = writer_is G.GoingOut e f refl
 
+  -- and fewer than 32
+  writer_few : (st : Stage) → (get_or (ps l) i nobody).stage ≡ st → (get_or (ps l) i nobody).ticket < 2 ^ 32 → writer_at st ≡ 1 → ((get_or (ps l) i nobody).ticket + (2 ^ 32 - l.words.wout)) % 2 ^ 32 < 32
+  writer_few st e f w = let k = in_line (given st e) w f in let m = few_writers (given st e) in omega (arith, k, m)
+
+  before_few : (st : Stage) → (get_or (ps l) i nobody).stage ≡ st → (get_or (ps l) i nobody).ticket < 2 ^ 32 → before_at st (get_or (ps l) i nobody).ticket l.words.wout < 32
+  before_few G.Away e f = omega arith
+  before_few G.Waiting e f = omega arith
+  before_few G.Reading e f = omega arith
+  before_few G.InLine e f = writer_few G.InLine e f refl
+  before_few G.Called e f = writer_few G.Called e f refl
+  before_few G.Posted e f = writer_few G.Posted e f refl
+  before_few G.Writing e f = writer_few G.Writing e f refl
+  before_few G.GoingOut e f = writer_few G.GoingOut e f refl
+
 -- the number of writers before a party of the lock
 pub ahead_here : (l : Pft) (i : ℕ) (t : Turn) → i < length (ps l) → (t.party ≡ get_or (ps l) i nobody) × (t.words ≡ four l.words) → t.party.ticket < 2 ^ 32 → ahead (book l) i ≡ before_at t.party.stage t.party.ticket t.words.wout
 ahead_here l i t here found fits = rw (found.0, found.1) (before_is l i here _ refl (rw found.0 at fits))
+
+-- which is below 32
+pub here_few : (l : Pft) (i : ℕ) (t : Turn) → i < length (ps l) → (t.party ≡ get_or (ps l) i nobody) × (t.words ≡ four l.words) → t.party.ticket < 2 ^ 32 → before_at t.party.stage t.party.ticket t.words.wout < 32
+here_few l i t here found fits = rw (found.0, found.1) (before_few l i here _ refl (rw found.0 at fits))
 
 -- and before any other
 pub ahead_past : (l : Pft) (i : ℕ) → length (ps l) ≤ i → ahead (book l) i ≡ 0

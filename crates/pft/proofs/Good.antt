@@ -6,9 +6,11 @@ use lib.Seq.{set-get_or}
 use Rattle.std.proofs.lemmas.Nat.{and_mask}
 use Rattle.std.proofs.lemmas.Nat.Bits.{and_high_mask}
 use Rattle.std.proofs.lemmas.Bool.{cond_both, eqb-true, eqb-false}
-use Rattle.phase.specs.Book.{step, says}
+use Rattle.phase.specs.Book.{Out, step, says, refuses, read_as, write_as, leave_as}
 use Rattle.phase.specs.Calls.{caller}
 use Rattle.phase.specs.declared.faults.LockFault.{LockFault}
+use Rattle.phase.specs.declared.kinds.Standing.{Standing}
+use Rattle.phase.specs.declared.kinds.Standing.TheVariants as S
 use Rattle.phase.specs.declared.kinds.Letter.{Letter}
 use Rattle.phase.specs.declared.kinds.Letter.TheVariants as L
 use Rattle.phase.specs.declared.kinds.LockCall.{LockCall}
@@ -20,7 +22,7 @@ use Rattle.pft_steps.specs.declared.party.Stage.TheVariants as G
 use Rattle.pft_steps.specs.declared.party.Party.{Party}
 use Rattle.pft_steps.specs.declared.steps.Change.{Change}
 use Rattle.pft_steps.specs.declared.words.Four.{Four}
-use Rattle.pft.proofs.Given.{Given, mine}
+use Rattle.pft.proofs.Given.{Given, mine, asks_at, joins_at, advances_at, leaves_at}
 use Rattle.pft.proofs.Ask as ask
 use Rattle.pft.proofs.Join as join
 use Rattle.pft.proofs.Stages as stages
@@ -45,7 +47,7 @@ pub record Accepted (w : Four) (ps : List Party) (i : ℕ) (c : LockCall) (h : C
 -- what a step owes
 abbrev pub Good : Four → List Party → ℕ → LockCall → Result Change LockFault → Type 0
 Good w ps i c (Ok h) = Accepted w ps i c h
-Good w ps i c (Err f) = Unit {0}
+Good w ps i c (Err f) = step true c (seen w.rin w.wout ps) ≡ refuses (seen w.rin w.wout ps)
 
 module _ (w : Four) (ps : List Party) (i : ℕ) (at : Here w ps i) where
   pub given : (st : Stage) → (get_or ps i nobody).stage ≡ st → Given w.rin w.rout w.win w.wout ps i nobody st
@@ -91,13 +93,13 @@ module _ (w : Four) (ps : List Party) (i : ℕ) (at : Here w ps i) where
       (λ (l : Letter). Accepted w ps i (RequestRead i) (asked_to l (w.rin % 4)))
       (λ t. asked_as e L.Cleared (ask.read_cleared (given G.Away e) (eqb-true _ _ t)))
       (λ t. asked_as e L.Held (ask.read_held (given G.Away e) (eqb-false _ _ t))))
-  good_ask G.Waiting e = tt
-  good_ask G.Reading e = tt
-  good_ask G.InLine e = tt
-  good_ask G.Called e = tt
-  good_ask G.Posted e = tt
-  good_ask G.Writing e = tt
-  good_ask G.GoingOut e = tt
+  good_ask G.Waiting e = asks_at (given G.Waiting e) ∙ cond_both (held (w.rin % 4) (get_or ps i nobody).saved) S.HeldOff S.Cleared (λ (x : Standing). ◌≡◌ {A = Out} (read_as x i (seen w.rin w.wout ps)) (refuses (seen w.rin w.wout ps))) (λ _. refl) (λ _. refl)
+  good_ask G.Reading e = asks_at (given G.Reading e)
+  good_ask G.InLine e = asks_at (given G.InLine e)
+  good_ask G.Called e = asks_at (given G.Called e)
+  good_ask G.Posted e = asks_at (given G.Posted e)
+  good_ask G.Writing e = asks_at (given G.Writing e)
+  good_ask G.GoingOut e = asks_at (given G.GoingOut e)
 
   good_join : (st : Stage) → (get_or ps i nobody).stage ≡ st → Good w ps i (RequestWrite i) (join_at st w)
   good_join G.Away e =
@@ -107,13 +109,13 @@ module _ (w : Four) (ps : List Party) (i : ℕ) (at : Here w ps i) where
         sound = join.join_sound (given G.Away e);
         moves = join.join_moves (given G.Away e);
       }
-  good_join G.Waiting e = tt
-  good_join G.Reading e = tt
-  good_join G.InLine e = tt
-  good_join G.Called e = tt
-  good_join G.Posted e = tt
-  good_join G.Writing e = tt
-  good_join G.GoingOut e = tt
+  good_join G.Waiting e = joins_at (given G.Waiting e) ∙ cond_both (held (w.rin % 4) (get_or ps i nobody).saved) S.HeldOff S.Cleared (λ (x : Standing). ◌≡◌ {A = Out} (write_as x i (seen w.rin w.wout ps)) (refuses (seen w.rin w.wout ps))) (λ _. refl) (λ _. refl)
+  good_join G.Reading e = joins_at (given G.Reading e)
+  good_join G.InLine e = joins_at (given G.InLine e)
+  good_join G.Called e = joins_at (given G.Called e)
+  good_join G.Posted e = joins_at (given G.Posted e)
+  good_join G.Writing e = joins_at (given G.Writing e)
+  good_join G.GoingOut e = joins_at (given G.GoingOut e)
 
   -- the bits that a called writer adds are its ticket's, which is wout
   bits_added : (get_or ps i nobody).stage ≡ G.Called → (w.rin + (2 + bit_and (get_or ps i nobody).ticket 1)) % 2 ^ 32 ≡ (w.rin + (2 + w.wout % 2)) % 2 ^ 32
@@ -123,14 +125,14 @@ module _ (w : Four) (ps : List Party) (i : ℕ) (at : Here w ps i) where
       ap (λ (n : ℕ). (w.rin + (2 + n)) % 2 ^ 32) (and_mask (get_or ps i nobody).ticket 1 ∙ ap (λ (n : ℕ). n % 2) own.0)
 
   good_advance : (st : Stage) → (get_or ps i nobody).stage ≡ st → Good w ps i (Advance i) (advance_at st (get_or ps i nobody) w)
-  good_advance G.Away e = tt
+  good_advance G.Away e = advances_at (given G.Away e)
   good_advance G.Waiting e =
       let P : ℕ → Type 0 = λ n. Accepted w ps i (Advance i) (cond (held n (get_or ps i nobody).saved) (unchanged L.Waits (get_or ps i nobody) w) (unchanged L.Entered (moved G.Reading (get_or ps i nobody)) w)) in
       subst⁻¹ P (and_mask w.rin 2)
       (cond_both (held (w.rin % 4) (get_or ps i nobody).saved) _ _ (λ (h : Change). Accepted w ps i (Advance i) h)
       (λ t. waits (Advance i) (stages.held_moves (given G.Waiting e) t))
       (λ t. record { kept = at.kept; sound = stages.enter_read_sound (given G.Waiting e) t; moves = stages.enter_read_moves (given G.Waiting e) t }))
-  good_advance G.Reading e = tt
+  good_advance G.Reading e = advances_at (given G.Reading e)
   good_advance G.InLine e =
       cond_both (eqb (get_or ps i nobody).ticket w.wout) _ _ (λ (h : Change). Accepted w ps i (Advance i) h)
       (λ t. let k = eqb-true _ _ t in record { kept = at.kept; sound = stages.call_sound (given G.InLine e) k; moves = stages.call_moves (given G.InLine e) k })
@@ -149,7 +151,7 @@ module _ (w : Four) (ps : List Party) (i : ℕ) (at : Here w ps i) where
       cond_both (eqb (get_or ps i nobody).saved w.rout) _ _ (λ (h : Change). Accepted w ps i (Advance i) h)
       (λ t. let k = eqb-true _ _ t in record { kept = at.kept; sound = enter.enter_sound (given G.Posted e) k; moves = enter.posted_enters (given G.Posted e) k })
       (λ t. waits (Advance i) (enter.posted_waits (given G.Posted e) (eqb-false _ _ t)))
-  good_advance G.Writing e = tt
+  good_advance G.Writing e = advances_at (given G.Writing e)
   good_advance G.GoingOut e =
       let k = at.kept in
       record {
@@ -159,8 +161,8 @@ module _ (w : Four) (ps : List Party) (i : ℕ) (at : Here w ps i) where
       }
 
   good_leave : (st : Stage) → (get_or ps i nobody).stage ≡ st → Good w ps i (Leave i) (leave_at st (get_or ps i nobody) w)
-  good_leave G.Away e = tt
-  good_leave G.Waiting e = tt
+  good_leave G.Away e = leaves_at (given G.Away e)
+  good_leave G.Waiting e = leaves_at (given G.Waiting e) ∙ cond_both (held (w.rin % 4) (get_or ps i nobody).saved) S.HeldOff S.Cleared (λ (x : Standing). ◌≡◌ {A = Out} (leave_as true x i (seen w.rin w.wout ps)) (refuses (seen w.rin w.wout ps))) (λ _. refl) (λ _. refl)
   good_leave G.Reading e =
       let k = at.kept in
       record {
@@ -168,9 +170,9 @@ module _ (w : Four) (ps : List Party) (i : ℕ) (at : Here w ps i) where
         sound = done.done_sound (given G.Reading e);
         moves = done.done_moves (given G.Reading e);
       }
-  good_leave G.InLine e = tt
-  good_leave G.Called e = tt
-  good_leave G.Posted e = tt
+  good_leave G.InLine e = leaves_at (given G.InLine e)
+  good_leave G.Called e = leaves_at (given G.Called e)
+  good_leave G.Posted e = leaves_at (given G.Posted e)
   good_leave G.Writing e =
       let k = at.kept in
       let P : ℕ → Type 0 = λ n. Accepted w ps i (Leave i) (record { letter = L.Out; party = moved G.GoingOut (get_or ps i nobody); words = record { rin = n; rout = w.rout; win = w.win; wout = w.wout } }) in
@@ -179,7 +181,7 @@ module _ (w : Four) (ps : List Party) (i : ℕ) (at : Here w ps i) where
         sound = clear.leave_sound (given G.Writing e);
         moves = clear.leave_moves (given G.Writing e);
       })
-  good_leave G.GoingOut e = tt
+  good_leave G.GoingOut e = leaves_at (given G.GoingOut e)
 
 pub good : (w : Four) (ps : List Party) (c : LockCall) → Here w ps (caller c) → Good w ps (caller c) c (next c (get_or ps (caller c) nobody) w)
 good w ps (RequestRead i) at = good_ask w ps i at _ refl

@@ -1,4 +1,4 @@
-ghost use Rattle.std.specs.Prelude.{◌≡◌, Bool, if◌then◌else◌, Ok, Err, nat_lt};
+ghost use Rattle.std.specs.Prelude.{◌≡◌, Bool, true, false, if◌then◌else◌, Ok, Err, nat_lt};
 ghost use Rattle.phase.specs.Book.{standing as standing_in};
 ghost use Rattle.phase.specs.Standings.{is_inside, is_writing};
 ghost use Rattle.phase.specs.declared.faults.LockFault.TheVariants.{Unfit};
@@ -177,10 +177,11 @@ impl<L: Lock> Rig<L> {
     // The rig has the party, at a standing that fits.
     fn must_stand<F: FnOnce(Standing) -> bool>(&self, party: u8, fits: F) -> Result<(), RigFault>
         requires { F.IsAlwaysCallable fits }
-        ensures { (b : Bool) × F.post fits (standing_in (L.Lock.book self.now.lock) party) b × (result ≡ (if nat_lt party self.now.parties then (if b then Ok tt else Err (OfLock Unfit)) else Err NoParty)) }
+        ensures absent { nat_lt party self.now.parties ≡ false → result ≡ Err NoParty }
+        ensures there { nat_lt party self.now.parties ≡ true → (b : Bool) × F.post fits (standing_in (L.Lock.book self.now.lock) party) b × (result ≡ (if b then Ok tt else Err (OfLock Unfit))) }
     {
-        let fit = fits(self.lock.standing(party));
         self.must_be_there(party)?;
+        let fit = fits(self.lock.standing(party));
         if !fit {
             return Err(LockFault::Unfit.into());
         }

@@ -1,6 +1,5 @@
-use Rattle.std.proofs.Common.{length, refl, ap, ◌∙◌, arith}
-use Rattle.pft.specs.Model.{state}
-use Rattle.listing_text.proofs.Places.{line_at_short, one_more, all_listed}
+use Rattle.std.proofs.Common.{refl, ◌∙◌, arith}
+use Rattle.listing_text.proofs.Places.{short_line, one_more, all_listed}
 use Rattle.listing_text.proofs.list_calls.Goals as goal
 
 pub loop-place-init : goal.loop-place-init
@@ -8,11 +7,10 @@ loop-place-init c = record { same_reference = refl; written = refl; rest = refl;
 
 pub put-requires : goal.put-requires
 put-requires c =
-    let short = line_at_short c.args.schedule.now c.loop-place.place (state c.loop-place.lock) in
-    let line = ap length (c.bytes.ensures ∙ c.list_word-line.ensures.line) in
+    let short = short_line _ _ _ _ (c.bytes.ensures ∙ c.list_word-line.ensures.line) in
     let v = c.loop-place.invariant in
     let n = c.len-place-end.ensures.words in
-    omega (arith, short, line, v.short, v.room, n)
+    omega (arith, short, v.short, v.room, n)
 
 pub loop-place-preserved : goal.loop-place-preserved
 loop-place-preserved c =
