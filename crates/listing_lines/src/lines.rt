@@ -50,8 +50,8 @@ pub fn last_line(words: [u32; 4]) -> Line
     let mut line = Line::empty();
     // A blank behind each word, and behind the last the end of the line.
     for (word, end) in words.iter().zip(b"   \n") {
-        line.put(&digits::<8, 16>(*word));
-        line.put(&[*end]);
+        let [a, b, c, d, e, f, g, h] = digits::<8, 16>(*word);
+        line.put(&[a, b, c, d, e, f, g, h, *end]);
     }
     line
 }
