@@ -1,12 +1,13 @@
 mod rigs;
 
 use list_lock::lock::ListLock;
+use listing_lines::lines::refusal_line;
 use listing_text::{MOST, listing_text, print_text};
 use pft::lock::Pft;
 use phase::faults::Fault;
 use phase::kinds::LockCall;
 use phase::lock::{Lock, make};
-use schedule::faults::PlacedFault;
+use schedule::faults::{PlacedFault, ScheduleFault};
 use std::alloc::Global;
 use std::process::Abort;
 use std::test::Fail;
@@ -201,4 +202,13 @@ fn a_refusal_leaves_the_space_as_it_was(rt: HostRuntime) -> Result<(), Fail> {
     }
     assert!(rt; small[0] == 7);
     Ok(())
+}
+
+#[test]
+fn a_line_can_be_copied(rt: HostRuntime) {
+    let line = refusal_line(ScheduleFault::OddLength);
+    let copy = line;
+    for each in [line, copy] {
+        assert_eq!(rt; each.bytes(), &b"x42 0000\n"[..]);
+    }
 }
